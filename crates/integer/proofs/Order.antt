@@ -1,0 +1,137 @@
+-- The order of ℤ. A linear fact from hypotheses is one line, `omega (arith, order, plus a b, ..)`: `order` lets omega read and prove
+-- `≼`, `≺` and `≡` of whole numbers and read the tests `ltZ a b ≡ true` and the like; the list has `plus a b` for each sum,
+-- `minus a b` for each difference and `negated a` for each negation that occurs. A product counts as a number of its own.
+use Prim.Native.Nat.{ℕ, suc, _+_, _*_, _<_, _≤_}
+use mathlib.Core.Path.{_≡_, refl, sym, _∙_, subst, subst⁻¹}
+use mathlib.Core.Logic.{_⊎_, inl, inr}
+use mathlib.Core.Bool.{Bool, true, false}
+use native.Mathlib.Omega.{arith}
+use native.Mathlib.Nat.{mul-le-mul-left}
+use native.Mathlib.Decide.{decLe}
+use lib.Dec.{T, leb→le, le→leb, ltb→lt, lt→ltb}
+use lib.IntN.{ℤ, pos, negsuc, negℤ, _+ℤ_, _-ℤ_, _*ℤ_}
+use lib.Signed.{leZ, ltZ}
+use Rattle.integer.specs.Order.{_≼_, _≺_}
+use Rattle.integer.proofs.Parts.{up, dn, same-parts, plus, minus, negated, times}
+
+-- ---- The order by the parts
+
+le-parts : (a b : ℤ) → T (leZ a b) → up a + dn b ≤ up b + dn a
+le-parts (pos m) (pos n) t = omega (arith, leb→le m n t)
+le-parts (pos m) (negsuc n) t = absurd t
+le-parts (negsuc m) (pos n) t = omega arith
+le-parts (negsuc m) (negsuc n) t = omega (arith, leb→le n m t)
+
+parts-le : (a b : ℤ) → up a + dn b ≤ up b + dn a → T (leZ a b)
+parts-le (pos m) (pos n) h = le→leb m n (omega arith)
+parts-le (pos m) (negsuc n) h = let z : ⊥ = omega arith in absurd z
+parts-le (negsuc m) (pos n) h = tt
+parts-le (negsuc m) (negsuc n) h = le→leb n m (omega arith)
+
+lt-parts : (a b : ℤ) → T (ltZ a b) → up a + dn b < up b + dn a
+lt-parts (pos m) (pos n) t = omega (arith, ltb→lt m n t)
+lt-parts (pos m) (negsuc n) t = absurd t
+lt-parts (negsuc m) (pos n) t = omega arith
+lt-parts (negsuc m) (negsuc n) t = omega (arith, ltb→lt n m t)
+
+parts-lt : (a b : ℤ) → up a + dn b < up b + dn a → T (ltZ a b)
+parts-lt (pos m) (pos n) h = lt→ltb m n (omega arith)
+parts-lt (pos m) (negsuc n) h = let z : ⊥ = omega arith in absurd z
+parts-lt (negsuc m) (pos n) h = tt
+parts-lt (negsuc m) (negsuc n) h = lt→ltb n m (omega arith)
+
+-- ---- What `omega` is told: a hypothesis in ℕ (`le→ h`), and a goal from ℕ (`→le`)
+
+pub le→ : {a b : ℤ} → a ≼ b → up a + dn b ≤ up b + dn a
+le→ {a} {b} h = le-parts a b (h .le)
+
+pub lt→ : {a b : ℤ} → a ≺ b → up a + dn b < up b + dn a
+lt→ {a} {b} h = lt-parts a b (h .lt)
+
+pub eq→ : {a b : ℤ} → a ≡ b → up a + dn b ≡ up b + dn a
+eq→ {a} {b} h = subst (λ (x : ℤ). up a + dn x ≡ up x + dn a) h refl
+
+pub →le : {a b : ℤ} → up a + dn b ≤ up b + dn a → a ≼ b
+→le {a} {b} h = record { le = parts-le a b h }
+
+pub →lt : {a b : ℤ} → up a + dn b < up b + dn a → a ≺ b
+→lt {a} {b} h = record { lt = parts-lt a b h }
+
+pub →eq : {a b : ℤ} → up a + dn b ≡ up b + dn a → a ≡ b
+→eq {a} {b} h = same-parts a b h
+
+passed : {b : Bool} → b ≡ true → T b
+passed e = subst⁻¹ T e tt
+
+failed : {b : Bool} → b ≡ false → T b → ⊥
+failed e t = subst T e t
+
+not-le : (x y : ℕ) → (x ≤ y → ⊥) → y < x
+not-le x y f = go (decLe x y)
+  where
+    go : Dec (x ≤ y) → y < x
+    go (yes p) = absurd (f p)
+    go (no n) = omega arith
+
+pub leZ-true→ : (a b : ℤ) → leZ a b ≡ true → up a + dn b ≤ up b + dn a
+leZ-true→ a b e = le-parts a b (passed e)
+
+pub leZ-false→ : (a b : ℤ) → leZ a b ≡ false → up b + dn a < up a + dn b
+leZ-false→ a b e = not-le (up a + dn b) (up b + dn a) (λ p. failed e (parts-le a b p))
+
+pub ltZ-true→ : (a b : ℤ) → ltZ a b ≡ true → up a + dn b < up b + dn a
+ltZ-true→ a b e = lt-parts a b (passed e)
+
+pub ltZ-false→ : (a b : ℤ) → ltZ a b ≡ false → up b + dn a ≤ up a + dn b
+ltZ-false→ a b e =
+    let h : up b + dn a < suc (up a + dn b) = not-le (suc (up a + dn b)) (up b + dn a) (λ p. failed e (parts-lt a b p)) in
+    omega arith
+
+pub ruleset order = (le→, lt→, eq→, →le, →lt, →eq, leZ-true→, leZ-false→, ltZ-true→, ltZ-false→)
+
+-- ---- Laws that `omega` is not asked for
+
+pub le-or-lt : (a b : ℤ) → (a ≼ b) ⊎ (b ≺ a)
+le-or-lt a b = go (decLe (up a + dn b) (up b + dn a))
+  where
+    go : Dec (up a + dn b ≤ up b + dn a) → (a ≼ b) ⊎ (b ≺ a)
+    go (yes p) = inl (→le p)
+    go (no n) = inr (→lt (omega arith))
+
+pub le-trans : {a b c : ℤ} → a ≼ b → b ≼ c → a ≼ c
+le-trans h k = omega (arith, order)
+
+-- a is at most b where b is a and something from 0 on; `ring` shows the equation
+pub le-by : {a b : ℤ} (d : ℤ) → pos 0 ≼ d → a +ℤ d ≡ b → a ≼ b
+le-by {a} {b} d h e = omega (arith, order, plus a d)
+
+pub diff-nonneg : {a b : ℤ} → a ≼ b → pos 0 ≼ b -ℤ a
+diff-nonneg {a} {b} h = omega (arith, order, minus b a)
+
+pub add-nonneg : {a b : ℤ} → pos 0 ≼ a → pos 0 ≼ b → pos 0 ≼ a +ℤ b
+add-nonneg {a} {b} h k = omega (arith, order, plus a b)
+
+pub add-le : {a b c d : ℤ} → a ≼ b → c ≼ d → a +ℤ c ≼ b +ℤ d
+add-le {a} {b} {c} {d} h k = omega (arith, order, plus a c, plus b d)
+
+pub mul-nonneg : {a b : ℤ} → pos 0 ≼ a → pos 0 ≼ b → pos 0 ≼ a *ℤ b
+mul-nonneg {a = pos m} {b = pos n} h k = omega (arith, order)
+mul-nonneg {a = pos m} {b = negsuc n} h k = absurd (k .le)
+mul-nonneg {a = negsuc m} h k = absurd (h .le)
+
+pub square-nonneg : (a : ℤ) → pos 0 ≼ a *ℤ a
+square-nonneg (pos n) = omega (arith, order)
+square-nonneg (negsuc n) = omega (arith, order)
+
+-- a factor from 0 on keeps the order
+pub mul-le : (k : ℤ) {a b : ℤ} → pos 0 ≼ k → a ≼ b → k *ℤ a ≼ k *ℤ b
+mul-le (pos k) {a} {b} n h = omega (arith, order, times (pos k) a, times (pos k) b, mul-le-mul-left k (le→ h))
+mul-le (negsuc k) n h = absurd (n .le)
+
+-- and is taken off both sides
+pub mul-cancel-lt : (k : ℤ) {a b : ℤ} → pos 0 ≼ k → k *ℤ a ≺ k *ℤ b → a ≺ b
+mul-cancel-lt k {a} {b} p h = go (le-or-lt b a)
+  where
+    go : (b ≼ a) ⊎ (a ≺ b) → a ≺ b
+    go (inl q) = let z : ⊥ = omega (arith, lt→ h, le→ (mul-le k p q)) in absurd z
+    go (inr q) = q

@@ -1,0 +1,119 @@
+-- Filling arrays and middle parts of slices: place by place, then as a whole.
+use Prim.Native.Nat.{ℕ, zero, suc, _+_, _-_, _*_, _/_, _%_, _<_, _≤_}
+use mathlib.Core.Path.{_≡_, refl, sym, _∙_, ap, subst}
+use mathlib.Core.Logic.{_⊎_, inl, inr}
+use mathlib.Core.List.{List, _++_}
+use native.Mathlib.Omega.{arith}
+use native.Mathlib.Decide.{decLe}
+use native.Mathlib.Nat.{div-add-mod, mod-lt, div-lt-iff-lt-mul}
+use lib.ListN.{length, length-set, getD, set, take, drop, replicate, List·getD-append}
+use lib.Seq.{getD-set-same, getD-set-other, getD-take, getD-drop, drop-at, length-take-le, ext-getD}
+use lib.IntN.{ℤ, pos, natAbs}
+use borrow.Rule.Slice.PartMut.{putMid, midOf, take-put, drop-put, same-len-mid, mid-len}
+use Rattle.integer.specs.Places.{at, Bounded, Stretch, Steps}
+
+pub lt-or-le : (a b : ℕ) → (a < b) ⊎ (b ≤ a)
+lt-or-le a b = go (decLe b a)
+  where
+    go : Dec (b ≤ a) → (a < b) ⊎ (b ≤ a)
+    go (yes p) = inr p
+    go (no n) = inl (omega arith)
+
+-- ---- A stretch
+
+pub stretch-none : (o : ℕ) (f : ℕ → ℤ) (l : List ℤ) → Stretch o 0 f l l
+stretch-none o f l = record { inside = λ j h. let z : ⊥ = omega arith in absurd z; outside = λ p h. refl; same = refl }
+
+-- one place more, by a store
+pub stretch-store : (o w : ℕ) (f : ℕ → ℤ) (old new : List ℤ) (v : ℤ) → o + w < length old → Stretch o w f old new → v ≡ f w →
+    Stretch o (w + 1) f old (set new (o + w) v)
+stretch-store o w f old new v room s e = record { inside = λ j h. in-j j h (lt-or-le j w); outside = out-p; same = length-set new (o + w) v ∙ s .same }
+  where
+    other : (p : ℕ) → (p ≡ o + w → ⊥) → at (set new (o + w) v) p ≡ at new p
+    other p h = getD-set-other new (o + w) p v (pos 0) h
+
+    in-j : (j : ℕ) → j < w + 1 → (j < w) ⊎ (w ≤ j) → at (set new (o + w) v) (o + j) ≡ f j
+    in-j j h (inl l) = other (o + j) (λ q. omega arith) ∙ s .inside j l
+    in-j j h (inr l) = let q : j ≡ w = omega arith in rw q (getD-set-same new (o + w) v (pos 0) (omega (arith, s .same)) ∙ e)
+
+    out-p : (p : ℕ) → (p < o) ⊎ (o + (w + 1) ≤ p) → at (set new (o + w) v) p ≡ at old p
+    out-p p (inl h) = other p (λ q. omega arith) ∙ s .outside p (inl h)
+    out-p p (inr h) = other p (λ q. omega arith) ∙ s .outside p (inr (omega arith))
+
+-- a part that was lent as `&mut xs[a..e]` and came back as zs
+pub stretch-part : (a e : ℕ) (xs zs : List ℤ) → a ≤ e → e ≤ length xs → length zs ≡ e - a →
+    Stretch a (e - a) (at zs) xs (putMid a (e - a) xs zs)
+stretch-part a e xs zs h l n = record { inside = in-j; outside = out-p; same = same-len-mid a (e - a) xs zs (n ∙ sym (mid-len a e xs l)) }
+  where
+    in-j : (j : ℕ) → j < e - a → at (putMid a (e - a) xs zs) (a + j) ≡ at zs j
+    in-j j k =
+        sym (getD-drop a (putMid a (e - a) xs zs) j (pos 0))
+        ∙ ap (λ (l : List ℤ). at l j) (drop-at (take a xs) (zs ++ drop (e - a) (drop a xs)) a (length-take-le a xs (omega arith)))
+        ∙ List·getD-append zs (drop (e - a) (drop a xs)) (pos 0) j (omega arith)
+
+    out-p : (p : ℕ) → (p < a) ⊎ (a + (e - a) ≤ p) → at (putMid a (e - a) xs zs) p ≡ at xs p
+    out-p p (inl k) =
+        sym (getD-take a (putMid a (e - a) xs zs) p (pos 0) k) ∙ ap (λ (l : List ℤ). at l p) (take-put a (e - a) xs zs (omega arith))
+        ∙ getD-take a xs p (pos 0) k
+    out-p p (inr k) =
+        let q : p ≡ e + (p - e) = omega arith in
+        ap (at (putMid a (e - a) xs zs)) q ∙ sym (getD-drop e (putMid a (e - a) xs zs) (p - e) (pos 0))
+        ∙ ap (λ (l : List ℤ). at l (p - e)) (drop-put a e xs zs h l n) ∙ getD-drop e xs (p - e) (pos 0) ∙ ap (at xs) (sym q)
+
+-- a stretch, and one right after it
+pub stretch-join : (o w v : ℕ) (f g h : ℕ → ℤ) (old mid new : List ℤ) → Stretch o w f old mid → Stretch (o + w) v g mid new →
+    ((j : ℕ) → j < w → h j ≡ f j) → ((j : ℕ) → j < v → h (w + j) ≡ g j) → Stretch o (w + v) h old new
+stretch-join o w v f g h old mid new s t first then =
+    record { inside = λ j l. in-j j l (lt-or-le j w); outside = out-p; same = t .same ∙ s .same }
+  where
+    in-j : (j : ℕ) → j < w + v → (j < w) ⊎ (w ≤ j) → at new (o + j) ≡ h j
+    in-j j l (inl k) = t .outside (o + j) (inl (omega arith)) ∙ s .inside j k ∙ sym (first j k)
+    in-j j l (inr k) =
+        let p : j ≡ w + (j - w) = omega arith in
+        let q : o + j ≡ o + w + (j - w) = omega arith in
+        ap (at new) q ∙ t .inside (j - w) (omega arith) ∙ sym (then (j - w) (omega arith)) ∙ ap h (sym p)
+
+    out-p : (p : ℕ) → (p < o) ⊎ (o + (w + v) ≤ p) → at new p ≡ at old p
+    out-p p (inl k) = t .outside p (inl (omega arith)) ∙ s .outside p (inl k)
+    out-p p (inr k) = t .outside p (inr (omega arith)) ∙ s .outside p (inr (omega arith))
+
+-- a stretch over every place is the whole list
+pub stretch-whole : (f : ℕ → ℤ) (old new list : List ℤ) → Stretch 0 (length old) f old new → length list ≡ length old →
+    ((j : ℕ) → j < length old → f j ≡ at list j) → new ≡ list
+stretch-whole f old new list s n h =
+    ext-getD (pos 0) new list (s .same ∙ sym n)
+    (λ j l. let k : j < length old = omega (arith, s .same) in
+    let z : j ≡ 0 + j = omega arith in
+    ap (at new) z ∙ s .inside j k ∙ h j k)
+
+-- ---- Steps of d places
+
+-- a step before step k lies before step k's places
+pub step-room : (d q k : ℕ) → q < k → d * q + d ≤ d * k
+step-room d q k h = let e : k ≡ q + 1 + (k - (q + 1)) = omega arith in subst (λ (x : ℕ). d * q + d ≤ d * x) (sym e) (omega arith)
+
+pub zeros : (n p : ℕ) → at (replicate n (pos 0)) p ≡ pos 0
+zeros zero p = refl
+zeros (suc n) zero = refl
+zeros (suc n) (suc p) = zeros n p
+
+pub steps-none : (d n : ℕ) (g : ℕ → ℕ → ℤ) → Steps d 0 g (replicate n (pos 0))
+steps-none d n g = record { each = λ q j h l. let z : ⊥ = omega arith in absurd z; rest = λ p h. zeros n p }
+
+pub steps-more : (d k : ℕ) (g : ℕ → ℕ → ℤ) (old new : List ℤ) → Steps d k g old → Stretch (d * k) d (g k) old new → Steps d (k + 1) g new
+steps-more d k g old new s t =
+    record { each = λ q j h l. each q j h l (lt-or-le q k); rest = λ p h. t .outside p (inr (omega arith)) ∙ s .rest p (omega arith) }
+  where
+    each : (q j : ℕ) → q < k + 1 → j < d → (q < k) ⊎ (k ≤ q) → at new (d * q + j) ≡ g q j
+    each q j h l (inl m) = t .outside (d * q + j) (inl (omega (arith, step-room d q k m))) ∙ s .each q j m l
+    each q j h l (inr m) = let e : q ≡ k = omega arith in rw e (t .inside j l)
+
+pub steps-bounded : {B : ℕ} (d k : ℕ) (g : ℕ → ℕ → ℤ) (l : List ℤ) → 0 < d → Steps d k g l →
+    ((q j : ℕ) → q < k → j < d → natAbs (g q j) ≤ B) → Bounded B l
+steps-bounded {B} d k g l h s b = record { each = λ p. go p (lt-or-le p (d * k)) }
+  where
+    go : (p : ℕ) → (p < d * k) ⊎ (d * k ≤ p) → natAbs (at l p) ≤ B
+    go p (inl m) =
+        let q : p / d < k = div-lt-iff-lt-mul h .1 (omega arith) in
+        rw (sym (div-add-mod p d), s .each (p / d) (p % d) q (mod-lt p h)) (b (p / d) (p % d) q (mod-lt p h))
+    go p (inr m) = rw (s .rest p m) (omega arith)

@@ -1,0 +1,126 @@
+-- Each step is read back as the number that it stands for, from the inside out; then its size shows that it fits.
+use Prim.Native.Nat.{_^_, _<_, _≤_}
+use mathlib.Core.Path.{_≡_, _∙_}
+use native.Mathlib.Nat.{le-trans}
+use native.Mathlib.Omega.{arith}
+use lib.IntN.{ℤ, natAbs, _+ℤ_, _-ℤ_, _*ℤ_}
+use lib.Signed.{quotZ}
+use mir.Syntax.{w64}
+use mir.Val.{SFits, toZ, ofZ}
+use mir.Facts.{toZ-ofZ}
+use Rattle.integer.specs.Quotient.{_÷_}
+use Rattle.integer.proofs.Order.{order, square-nonneg}
+use Rattle.integer.proofs.Sizes.{called, fits-by, size-add, size-mul}
+use Rattle.integer.proofs.Quotient.{divides, machine-quotient, size-quotient}
+use Rattle.integer.proofs.Square.{Sized, rest, square-quotient, divisor, size-divisor, size-whole, size-rest, size-both, size-front, size-square}
+use Rattle.integer.proofs.number.square_quotient.Statement.{statement}
+use Rattle.integer.proofs.number.square_quotient.Tie as tie
+use Rattle.integer.proofs.number.square_quotient.Reads as reads
+use Rattle.integer.proofs.number.square_quotient.Lts as lts
+use Rattle.integer.proofs.number.quotient.Reads as quotient-reads
+
+abbrev Body : Type 0
+Body = lts.After-quotient (quotient-reads.Asked, quotient-reads.Learnt) reads.Pre reads.Post
+
+sized : (c : Body) → Sized (c .before .args .s) (c .before .args .d)
+sized c = let p = c .before .pre in record { size = p .0; low = p .1; high = p .2 }
+
+module _ (c : Body) where
+  abbrev s : ℤ
+  s = c .before .args .s
+
+  abbrev d : ℤ
+  d = c .before .args .d
+
+  s-is : toZ w64 (ofZ w64 s) ≡ s
+  s-is = toZ-ofZ (c .before .fits .s)
+
+  d-is : toZ w64 (ofZ w64 d) ≡ d
+  d-is = toZ-ofZ (c .before .fits .d)
+
+  whole-is : toZ w64 (ofZ w64 (c .quotient .result)) ≡ s ÷ d
+  whole-is = called (c .quotient .result) (c .quotient .ok) ∙ rw (s-is, d-is) at (c .quotient .ensures)
+
+  product-fits : SFits w64 ((s ÷ d) *ℤ d)
+  product-fits = fits-by ((s ÷ d) *ℤ d) (size-mul (s ÷ d) d (size-whole s d (sized c)) (size-divisor s d (sized c))) (omega arith)
+
+  rest-fits : SFits w64 (rest s d)
+  rest-fits = fits-by (rest s d) (size-rest s d (sized c)) (omega arith)
+
+  both-fits : SFits w64 (s +ℤ rest s d)
+  both-fits = fits-by (s +ℤ rest s d) (size-both s d (sized c)) (omega arith)
+
+  front-fits : SFits w64 ((s ÷ d) *ℤ (s +ℤ rest s d))
+  front-fits = fits-by ((s ÷ d) *ℤ (s +ℤ rest s d)) (size-front s d (sized c)) (omega arith)
+
+  square-fits : SFits w64 (rest s d *ℤ rest s d)
+  square-fits = fits-by (rest s d *ℤ rest s d) (size-square s d (sized c)) (omega arith)
+
+  division : (0 < ofZ w64 d) × SFits w64 (quotZ (rest s d *ℤ rest s d) d)
+  division = divides (rest s d *ℤ rest s d) d (divisor s d (sized c)) square-fits
+
+  last-is : quotZ (rest s d *ℤ rest s d) d ≡ (rest s d *ℤ rest s d) ÷ d
+  last-is = machine-quotient (rest s d *ℤ rest s d) d (square-nonneg (rest s d)) (divisor s d (sized c))
+
+  total-fits : SFits w64 ((s ÷ d) *ℤ (s +ℤ rest s d) +ℤ quotZ (rest s d *ℤ rest s d) d)
+  total-fits =
+      rw last-is
+      (fits-by ((s ÷ d) *ℤ (s +ℤ rest s d) +ℤ (rest s d *ℤ rest s d) ÷ d)
+      (size-add ((s ÷ d) *ℤ (s +ℤ rest s d)) ((rest s d *ℤ rest s d) ÷ d) (size-front s d (sized c))
+      (le-trans (size-quotient (rest s d *ℤ rest s d) d) (size-square s d (sized c)))) (omega arith))
+
+quotient-requires : tie.Need-quotient-requires
+quotient-requires c κs = rw (toZ-ofZ (c .fits .d)) (let p = c .pre in omega (arith, order))
+
+mul-b : tie.Need-mul-b
+mul-b c = simp (whole-is c, d-is c) (product-fits c)
+
+sub-b : tie.Need-sub-b
+sub-b c = simp (whole-is c, s-is c, d-is c, toZ-ofZ (product-fits c)) (rest-fits c)
+
+add-result : tie.Need-add-result
+add-result c = simp (whole-is c, s-is c, d-is c, toZ-ofZ (product-fits c), toZ-ofZ (rest-fits c)) (both-fits c)
+
+mul-result : tie.Need-mul-result
+mul-result c = simp (whole-is c, s-is c, d-is c, toZ-ofZ (product-fits c), toZ-ofZ (rest-fits c), toZ-ofZ (both-fits c)) (front-fits c)
+
+mul-result-2 : tie.Need-mul-result-2
+mul-result-2 c = simp (whole-is c, s-is c, d-is c, toZ-ofZ (product-fits c), toZ-ofZ (rest-fits c)) (square-fits c)
+
+div-result : tie.Need-div-result
+div-result c = simp (whole-is c, s-is c, d-is c, toZ-ofZ (product-fits c), toZ-ofZ (rest-fits c), toZ-ofZ (square-fits c)) (division c)
+
+add-result-2 : tie.Need-add-result-2
+add-result-2 c =
+    simp (
+      whole-is c,
+      s-is c,
+      d-is c,
+      toZ-ofZ (product-fits c),
+      toZ-ofZ (rest-fits c),
+      toZ-ofZ (both-fits c),
+      toZ-ofZ (front-fits c),
+      toZ-ofZ (square-fits c),
+      toZ-ofZ (division c .1),
+    )
+    (total-fits c)
+
+returns : tie.Need-returns
+returns c =
+    simp (
+      whole-is c,
+      s-is c,
+      d-is c,
+      toZ-ofZ (product-fits c),
+      toZ-ofZ (rest-fits c),
+      toZ-ofZ (both-fits c),
+      toZ-ofZ (front-fits c),
+      toZ-ofZ (square-fits c),
+      toZ-ofZ (division c .1),
+      toZ-ofZ (total-fits c),
+    )
+    (rw (last-is c) (square-quotient (s c) (d c) (divisor (s c) (d c) (sized c))))
+
+pub square-quotient-spec : {M : Type 1} → statement M
+square-quotient-spec =
+    tie.close (tie.spec quotient-requires mul-b sub-b add-result mul-result mul-result-2 div-result add-result-2 returns)

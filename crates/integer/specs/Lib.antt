@@ -1,0 +1,7 @@
+-- The definitions that promises cite.
+pub mod Order
+pub mod Quotient
+pub mod Limited
+pub mod Sum
+pub mod Operand
+pub mod Places

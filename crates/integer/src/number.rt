@@ -1,0 +1,54 @@
+// Quotients rounded down, limits and sizes.
+ghost use Prim.Native.Nat.{_^_, _<_};
+ghost use mathlib.Core.Path.{_≡_};
+ghost use lib.IntN.{pos, natAbs, _*ℤ_};
+ghost use Rattle.integer.specs.Limited.{limited};
+ghost use Rattle.integer.specs.Order.{_≼_};
+ghost use Rattle.integer.specs.Quotient.{_÷_};
+
+// x / d rounded down. Every divisor of document 01 is from 1: 4,096, 65,536, k + 2 and, as weights
+// are from 1, 2P.
+pub fn quotient(x: i64, d: i64) -> i64
+    requires { ⌜ pos 1 ≼ d ⌝ }
+    ensures { λ r. ⌜ r ≡ x ÷ d ⌝ }
+{
+    if x < 0 {
+        return -1 - (-1 - x) / d;
+    }
+    x / d
+}
+
+// x limited to lo to hi.
+pub fn limit(x: i64, lo: i64, hi: i64) -> i64
+    ensures { λ r. ⌜ r ≡ limited lo hi x ⌝ }
+{
+    if x < lo {
+        return lo;
+    }
+    if hi < x {
+        return hi;
+    }
+    x
+}
+
+// The size of x. It is unsigned, so that the least i64 has one too.
+pub fn size(x: i64) -> u64
+    ensures { λ r. ⌜ r ≡ natAbs x ⌝ }
+{
+    if x < 0 {
+        return (-1 - x) as u64 + 1;
+    }
+    x as u64
+}
+
+// s * s / d rounded down, exact where s * s is beyond 64 bits: with s = a * d + b the square is
+// a * (s + b) times d, and b * b. The divisor is 4P, with P from 4,096 to 4,096 * 255; in the third
+// piece the size of s is at most 80,000 P, below 2^37.
+pub fn square_quotient(s: i64, d: i64) -> i64
+    requires { ⌜ (natAbs s < 2 ^ 37) × (pos 16384 ≼ d) × (d ≼ pos 4177920) ⌝ }
+    ensures { λ r. ⌜ r ≡ (s *ℤ s) ÷ d ⌝ }
+{
+    let a = quotient(s, d);
+    let b = s - a * d;
+    a * (s + b) + b * b / d
+}

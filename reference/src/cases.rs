@@ -1,0 +1,153 @@
+//! A text of test cases, and the output expected from the planner's test programs.
+//!
+//! One case a line; blank lines and lines that begin with `#` are passed over. A part may be
+//! empty. Bytes are pairs of hexadecimal digits, with or without blanks between them.
+//!
+//! ```text
+//! read HEX
+//! judge HEX / plan numbers / multipliers
+//! show HEX / multipliers
+//! solve HEX / plan numbers / multipliers
+//! ```
+
+use crate::calls::{judge_multipliers, judge_plan, read, solve, Shown, Solved};
+use crate::model::{Column, Furnace, Whole};
+use crate::refusal::Refusal;
+use crate::tape::{MOST_COLUMNS, MOST_INPUTS, MOST_STATES};
+
+/// The expected output for a text of cases, or what is wrong with the text.
+pub fn expect(text: &str) -> Result<String, String> {
+    let mut output = String::new();
+    for (index, line) in text.lines().enumerate() {
+        let line = line.trim();
+        if line.is_empty() || line.starts_with('#') {
+            continue;
+        }
+        let lines = answer(line).map_err(|error| format!("line {}: {error}", index + 1))?;
+        output += &lines;
+    }
+    Ok(output)
+}
+
+/// The output lines of one case.
+fn answer(line: &str) -> Result<String, String> {
+    let (call, rest) = line.split_once(char::is_whitespace).unwrap_or((line, ""));
+    let parts: Vec<&str> = rest.split('/').collect();
+    match (call, parts.as_slice()) {
+        ("read", [tape]) => Ok(match read(&bytes(tape)?) {
+            Ok(furnace) => listed("read", read_numbers(&furnace)),
+            Err(refusal) => refused(refusal),
+        }),
+        ("judge", [tape, plan, multipliers]) => {
+            let answer = judge_plan(&bytes(tape)?, &numbers(plan)?, &numbers(multipliers)?);
+            Ok(match answer {
+                Ok(gap) => format!("gap {gap}\n"),
+                Err(refusal) => refused(refusal),
+            })
+        }
+        ("show", [tape, multipliers]) => {
+            let answer = judge_multipliers(&bytes(tape)?, &numbers(multipliers)?);
+            Ok(match answer {
+                Ok(Shown) => "shown\n".to_string(),
+                Err(refusal) => refused(refusal),
+            })
+        }
+        ("solve", [tape, plan, multipliers]) => {
+            let mut plan = numbers(plan)?;
+            let mut multipliers = numbers(multipliers)?;
+            let answer = match solve(&bytes(tape)?, &mut plan, &mut multipliers) {
+                Ok(Solved::Proved { rounds, gap, first }) => {
+                    listed(&format!("proved {rounds} {gap}"), first)
+                }
+                Ok(Solved::Impossible { rounds }) => format!("impossible {rounds}\n"),
+                Err(refusal) => refused(refusal),
+            };
+            Ok(answer + &listed("plan", plan) + &listed("multipliers", multipliers))
+        }
+        ("read" | "judge" | "show" | "solve", _) => {
+            Err(format!("`{call}` has another number of parts"))
+        }
+        _ => Err(format!("no call is named `{call}`")),
+    }
+}
+
+/// The line of a refusal: its number, then what it carries.
+fn refused(refusal: Refusal) -> String {
+    match refusal.carried() {
+        Some(carried) => format!("refused {} {carried}\n", refusal.number()),
+        None => format!("refused {} -\n", refusal.number()),
+    }
+}
+
+/// A line: a word, then numbers.
+fn listed<T: ToString>(word: &str, numbers: impl IntoIterator<Item = T>) -> String {
+    let mut line = word.to_string();
+    for number in numbers {
+        line += " ";
+        line += &number.to_string();
+    }
+    line + "\n"
+}
+
+/// Read's result as 118 numbers: n m N, A by rows of 6, B by rows of 4, w, lo, hi, r, h, x(0),
+/// g, R, T. Places beyond the tape's sizes are 0.
+pub fn read_numbers(furnace: &Furnace) -> Vec<Whole> {
+    let mut numbers = vec![
+        furnace.states as Whole,
+        furnace.inputs as Whole,
+        furnace.horizon as Whole,
+    ];
+    for i in 0..MOST_STATES {
+        for j in 0..MOST_STATES {
+            let inside = i < furnace.states && j < furnace.states;
+            numbers.push(if inside { furnace.a[i][j] } else { 0 });
+        }
+    }
+    for i in 0..MOST_STATES {
+        for j in 0..MOST_INPUTS {
+            let inside = i < furnace.states && j < furnace.inputs;
+            numbers.push(if inside { furnace.b[i][j] } else { 0 });
+        }
+    }
+    for i in 0..MOST_STATES {
+        numbers.push(furnace.drift.get(i).copied().unwrap_or(0));
+    }
+    let fields: [fn(&Column) -> Whole; 4] = [|c| c.lo, |c| c.hi, |c| c.reference, |c| c.weight];
+    for field in fields {
+        for c in 0..MOST_COLUMNS {
+            numbers.push(furnace.columns.get(c).map_or(0, field));
+        }
+    }
+    for i in 0..MOST_STATES {
+        numbers.push(furnace.start.get(i).copied().unwrap_or(0));
+    }
+    numbers.push(furnace.step_size);
+    numbers.push(Whole::from(furnace.rounds));
+    numbers.push(furnace.wanted_gap);
+    numbers
+}
+
+/// Bytes from hexadecimal digits.
+pub fn bytes(text: &str) -> Result<Vec<u8>, String> {
+    let mut bytes = Vec::new();
+    for word in text.split_whitespace() {
+        if !word.bytes().all(|digit| digit.is_ascii_hexdigit()) || word.len() % 2 != 0 {
+            return Err(format!("`{word}` is not pairs of hexadecimal digits"));
+        }
+        for place in (0..word.len()).step_by(2) {
+            let byte = u8::from_str_radix(&word[place..place + 2], 16);
+            bytes.push(byte.map_err(|error| error.to_string())?);
+        }
+    }
+    Ok(bytes)
+}
+
+/// 32-bit signed numbers with blanks between them.
+fn numbers(text: &str) -> Result<Vec<i32>, String> {
+    text.split_whitespace()
+        .map(|word| {
+            word.parse()
+                .map_err(|_| format!("`{word}` is not a 32-bit signed number"))
+        })
+        .collect()
+}

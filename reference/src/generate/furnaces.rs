@@ -1,0 +1,380 @@
+//! Furnaces whose tapes are accepted: of all value ranges, at the limits of all numbers, and
+//! tuned so that the rounds end with 'proved' or 'impossible' after a chosen number of rounds.
+
+use super::random::Random;
+use crate::floor::Multipliers;
+use crate::model::{floor_div, Column, Furnace, Plan, Whole, UNIT};
+use crate::rounds::{run, Candidate, Outcome, Round};
+use crate::tape::{
+    DRIFT_RANGE, ENTRY_RANGE, MOST_INPUTS, MOST_ROUNDS, MOST_STATES, MOST_STEPS, MOST_WEIGHT,
+    NUMBER_RANGE,
+};
+
+/// The largest T.
+const MOST_GAP: Whole = 0xffff_ffff;
+
+/// A furnace of random sizes. Its weights, g and R are 1, all other numbers 0.
+fn blank(random: &mut Random) -> Furnace {
+    let states = 1 + random.below(MOST_STATES);
+    let inputs = 1 + random.below(MOST_INPUTS);
+    let horizon = 1 + random.below(MOST_STEPS);
+    let column = Column {
+        lo: 0,
+        hi: 0,
+        reference: 0,
+        weight: 1,
+    };
+    Furnace {
+        states,
+        inputs,
+        horizon,
+        a: vec![vec![0; states]; states],
+        b: vec![vec![0; inputs]; states],
+        drift: vec![0; states],
+        columns: vec![column; states + inputs],
+        start: vec![0; states],
+        step_size: 1,
+        rounds: 1,
+        wanted_gap: 0,
+    }
+}
+
+/// Sets every number of a furnace: `number` gives one within plus and minus the range.
+fn fill(furnace: &mut Furnace, random: &mut Random, number: fn(&mut Random, Whole) -> Whole) {
+    for i in 0..furnace.states {
+        for j in 0..furnace.states {
+            furnace.a[i][j] = number(random, ENTRY_RANGE);
+        }
+        for j in 0..furnace.inputs {
+            furnace.b[i][j] = number(random, ENTRY_RANGE);
+        }
+        furnace.drift[i] = number(random, DRIFT_RANGE);
+        furnace.start[i] = number(random, NUMBER_RANGE);
+    }
+    for column in &mut furnace.columns {
+        let one = number(random, NUMBER_RANGE);
+        let other = number(random, NUMBER_RANGE);
+        column.lo = one.min(other);
+        column.hi = one.max(other);
+        column.reference = number(random, NUMBER_RANGE);
+    }
+}
+
+/// A number of any size within the range.
+fn any_size(random: &mut Random, range: Whole) -> Whole {
+    match random.below(6) {
+        0 => 0,
+        1 => random.between(-10, 10),
+        2 => random.between(-range / 64, range / 64),
+        3 => random.between(-range / 8, range / 8),
+        _ => random.between(-range, range),
+    }
+}
+
+/// A number at an end of the range, or next to it.
+fn at_end(random: &mut Random, range: Whole) -> Whole {
+    random.choose(&[-range, range, -range, range, range - 1, 1 - range])
+}
+
+/// A furnace of all value ranges.
+pub fn plain(random: &mut Random) -> Furnace {
+    let mut furnace = blank(random);
+    fill(&mut furnace, random, any_size);
+    for column in &mut furnace.columns {
+        column.weight = random.between(1, MOST_WEIGHT);
+    }
+    furnace.step_size = random.between(1, 65_535);
+    furnace.rounds = if random.one_in(50) {
+        random.between(31, 300) as u32
+    } else {
+        random.between(1, 30) as u32
+    };
+    furnace.wanted_gap = random.choose(&[0, MOST_GAP, MOST_GAP / 2, 1_000_000]);
+    furnace
+}
+
+/// A furnace with every number at a limit of its range.
+pub fn limits(random: &mut Random) -> Furnace {
+    let mut furnace = blank(random);
+    if random.one_in(4) {
+        // The largest sizes, for the largest sums.
+        while furnace.states < MOST_STATES || furnace.horizon < MOST_STEPS {
+            furnace = blank(random);
+        }
+    }
+    fill(&mut furnace, random, at_end);
+    for column in &mut furnace.columns {
+        column.weight = random.choose(&[1, MOST_WEIGHT]);
+    }
+    furnace.step_size = random.choose(&[1, 65_535]);
+    // Few have the largest R, since all its rounds are entered.
+    furnace.rounds = if random.one_in(40) {
+        MOST_ROUNDS as u32
+    } else {
+        random.choose(&[1, 1, 2, 3, 10])
+    };
+    furnace.wanted_gap = random.choose(&[0, MOST_GAP]);
+    furnace
+}
+
+/// A furnace that stays near its references under its reference inputs, as real ones do.
+fn near_rest(random: &mut Random) -> Furnace {
+    let mut furnace = blank(random);
+    let deviation = random.choose(&[2, 10, 40, 150, 400]);
+    let most_weight = random.choose(&[1, 4, 20, MOST_WEIGHT]);
+    let input_span = random.choose(&[10, 40, 200, 1000]);
+    for place in 0..furnace.states + furnace.inputs {
+        let is_state = place < furnace.states;
+        let span = if is_state { deviation } else { input_span };
+        let reference = random.between(-400, 400) * random.choose(&[0, 1, 1, 5]);
+        furnace.columns[place] = Column {
+            lo: reference - random.between(span / 2, 3 * span),
+            hi: reference + random.between(span / 2, 3 * span),
+            reference,
+            weight: random.between(1, most_weight),
+        };
+    }
+    for i in 0..furnace.states {
+        for j in 0..furnace.states {
+            if i == j {
+                furnace.a[i][j] = random.between(2_400, 4_200);
+            } else if random.one_in(2) {
+                furnace.a[i][j] = random.between(-500, 500);
+            }
+        }
+        for j in 0..furnace.inputs {
+            if i % furnace.inputs == j {
+                furnace.b[i][j] = random.between(200, 3_000);
+            } else if random.one_in(2) {
+                furnace.b[i][j] = random.between(-300, 300);
+            }
+        }
+    }
+    for i in 0..furnace.states {
+        // The drift that keeps the references at rest, and a disturbance.
+        let mut drift = UNIT * furnace.columns[i].reference;
+        for j in 0..furnace.states {
+            drift -= furnace.a[i][j] * furnace.columns[j].reference;
+        }
+        for j in 0..furnace.inputs {
+            drift -= furnace.b[i][j] * furnace.input_column(j).reference;
+        }
+        drift += random.between(-300, 300) * deviation;
+        furnace.drift[i] = drift.clamp(-DRIFT_RANGE, DRIFT_RANGE);
+        let start = furnace.columns[i].reference + random.between(-deviation, deviation);
+        furnace.start[i] = start.clamp(-NUMBER_RANGE, NUMBER_RANGE);
+    }
+    if random.one_in(5) {
+        // A reference outside its limits.
+        let place = random.below(furnace.columns.len());
+        let column = &mut furnace.columns[place];
+        column.reference = column.hi + random.between(1, deviation);
+    }
+    furnace
+}
+
+/// The step size at which the rounds surely converge, times `numerator` / `denominator`. It is
+/// 65,536 over a bound of the largest eigenvalue of M H⁻¹ Mᵀ, where M has a row for each
+/// residual and H is diagonal with 2P; the bound is the largest sum of a row's entries.
+fn tuned_step_size(furnace: &Furnace, numerator: Whole, denominator: Whole) -> Whole {
+    let mut bound = 1;
+    for i in 0..furnace.states {
+        let twice_price = |c: usize| 2 * furnace.columns[c].price();
+        let mut row = UNIT * UNIT / twice_price(i);
+        for q in 0..furnace.states {
+            for j in 0..furnace.inputs {
+                row += (furnace.b[i][j] * furnace.b[q][j]).abs() / twice_price(furnace.states + j);
+            }
+            if furnace.horizon > 1 {
+                row += UNIT * furnace.a[i][q].abs() / twice_price(q);
+                row += UNIT * furnace.a[q][i].abs() / twice_price(i);
+                for c in 0..furnace.states {
+                    row += (furnace.a[i][c] * furnace.a[q][c]).abs() / twice_price(c);
+                }
+            }
+        }
+        bound = bound.max(row);
+    }
+    (65_536 * numerator / (denominator * bound)).clamp(1, 65_535)
+}
+
+/// What a trial of the rounds showed.
+struct Trial {
+    /// Rounds entered, and the gap, of each candidate with a smaller gap than all before it.
+    records: Vec<(u32, Whole)>,
+    /// Rounds entered up to 'impossible', if it came.
+    impossible: Option<u32>,
+}
+
+/// Runs at most `most` rounds that cannot end with 'proved'.
+fn trial(furnace: &Furnace, most: u32) -> Trial {
+    let mut furnace = furnace.clone();
+    furnace.rounds = most;
+    // No gap is below 0.
+    furnace.wanted_gap = -1;
+    let mut records: Vec<(u32, Whole)> = Vec::new();
+    let outcome = run(&furnace, &mut |round: &Round| {
+        if let Candidate::Follows { gap, .. } = round.candidate {
+            if records.last().is_none_or(|(_, least)| gap < *least) {
+                records.push((round.k + 1, gap));
+            }
+        }
+    });
+    let impossible = match outcome {
+        Outcome::Impossible { rounds, .. } => Some(rounds),
+        _ => None,
+    };
+    Trial {
+        records,
+        impossible,
+    }
+}
+
+/// R for an answer that comes in round `rounds`: mostly enough, some exactly enough, some one
+/// too few.
+fn rounds_around(random: &mut Random, rounds: u32) -> u32 {
+    match random.below(8) {
+        0 if rounds > 1 => rounds - 1,
+        1 | 2 => rounds,
+        _ => rounds + 1 + random.below(40) as u32,
+    }
+}
+
+/// A furnace whose rounds mostly end with 'proved': T is the gap of a round of a trial.
+pub fn proved(random: &mut Random) -> Furnace {
+    let target = random.choose(&[2, 3, 5, 10, 20, 50, 100, 200, 300, 400]);
+    let mut furnace = near_rest(random);
+    for _attempt in 0..6 {
+        // Small steps lower the gap for more rounds.
+        let (numerator, denominator) = if target < 50 {
+            random.choose(&[(3, 1), (2, 1), (1, 1), (1, 1), (1, 2), (1, 8)])
+        } else {
+            random.choose(&[(2, 1), (1, 1), (1, 8), (1, 32), (1, 128), (1, 512)])
+        };
+        furnace.step_size = tuned_step_size(&furnace, numerator, denominator);
+        let mut records = trial(&furnace, target).records;
+        records.retain(|(_, gap)| *gap <= MOST_GAP);
+        // Mostly the last round that lowers the gap, so that many answers come late.
+        let chosen = if random.one_in(4) {
+            records.get(random.below(records.len().max(1)))
+        } else {
+            records.last()
+        };
+        if let Some((rounds, gap)) = chosen {
+            furnace.rounds = rounds_around(random, *rounds);
+            furnace.wanted_gap = *gap;
+            if random.one_in(8) {
+                furnace.wanted_gap = (*gap - 1).max(0);
+            }
+            return furnace;
+        }
+        furnace = near_rest(random);
+    }
+    furnace
+}
+
+/// Moves the limits of one state out of reach: above the highest, or below the lowest, that the
+/// model gives it in some step.
+fn put_out_of_reach(furnace: &mut Furnace, random: &mut Random, margin: Whole) {
+    let i = random.below(furnace.states);
+    let upwards = random.one_in(2);
+    let step = random.below(furnace.horizon);
+    let mut lowest = furnace.start.clone();
+    let mut highest = furnace.start.clone();
+    for _ in 0..=step {
+        let bounds: Vec<(Whole, Whole)> = (0..furnace.states)
+            .map(|q| reach(furnace, &lowest, &highest, q))
+            .collect();
+        for (q, (low, high)) in bounds.into_iter().enumerate() {
+            lowest[q] = low;
+            highest[q] = high;
+        }
+    }
+    let width = random.choose(&[0, 5, 30, 200]);
+    let column = &mut furnace.columns[i];
+    if upwards {
+        column.lo = (highest[i] + margin).clamp(-NUMBER_RANGE, NUMBER_RANGE);
+        column.hi = (column.lo + width).min(NUMBER_RANGE);
+    } else {
+        column.hi = (lowest[i] - margin).clamp(-NUMBER_RANGE, NUMBER_RANGE);
+        column.lo = (column.hi - width).max(-NUMBER_RANGE);
+    }
+    column.reference = random.between(column.lo, column.hi);
+}
+
+/// The lowest and highest next state i, the states lying between `lowest` and `highest` and the
+/// inputs within their limits.
+fn reach(furnace: &Furnace, lowest: &[Whole], highest: &[Whole], i: usize) -> (Whole, Whole) {
+    let mut low = furnace.drift[i];
+    let mut high = furnace.drift[i];
+    let mut add = |factor: Whole, from: Whole, to: Whole| {
+        low += (factor * from).min(factor * to);
+        high += (factor * from).max(factor * to);
+    };
+    for j in 0..furnace.states {
+        add(furnace.a[i][j], lowest[j], highest[j]);
+    }
+    for j in 0..furnace.inputs {
+        let column = furnace.input_column(j);
+        add(furnace.b[i][j], column.lo, column.hi);
+    }
+    (floor_div(low, UNIT), floor_div(high, UNIT) + 1)
+}
+
+/// A furnace whose rounds mostly end with 'impossible'.
+pub fn impossible(random: &mut Random) -> Furnace {
+    let most = random.choose(&[5, 20, 60, 150, 300]);
+    let mut attempt = 0;
+    loop {
+        let mut furnace = near_rest(random);
+        // Later attempts are further out of reach and take larger steps.
+        let margin = random.choose(&[1, 4, 20, 100, 300]) << attempt;
+        put_out_of_reach(&mut furnace, random, margin);
+        let (numerator, denominator) =
+            random.choose(&[(8, 1), (4, 1), (1, 1), (1, 4), (1, 16), (1, 64)]);
+        furnace.step_size = tuned_step_size(&furnace, numerator << attempt, denominator);
+        furnace.wanted_gap = random.choose(&[0, 1_000, 1_000_000, MOST_GAP]);
+        furnace.rounds = most;
+        attempt += 1;
+        if let Some(rounds) = trial(&furnace, most).impossible {
+            let rounds = delay(&mut furnace, random, rounds, most);
+            furnace.rounds = rounds_around(random, rounds);
+            return furnace;
+        }
+        if attempt == 6 || random.one_in(10) {
+            return furnace;
+        }
+    }
+}
+
+/// Lowers g so that 'impossible' comes after `rounds` or more rounds, but at most `most`.
+/// Returns the rounds that it takes.
+fn delay(furnace: &mut Furnace, random: &mut Random, rounds: u32, most: u32) -> u32 {
+    let mut rounds = rounds;
+    while rounds < most / 3 && furnace.step_size > 1 && !random.one_in(4) {
+        let mut slower = furnace.clone();
+        slower.step_size = (furnace.step_size / 4).max(1);
+        match trial(&slower, most).impossible {
+            Some(later) => {
+                *furnace = slower;
+                rounds = later;
+            }
+            None => break,
+        }
+    }
+    rounds
+}
+
+/// The best candidate of a solve's rounds with its y~, by gap, if any candidate followed the
+/// tape.
+pub fn best_candidate(furnace: &Furnace) -> Option<(Plan, Multipliers)> {
+    let mut best: Option<(Whole, Plan, Multipliers)> = None;
+    run(furnace, &mut |round: &Round| {
+        if let Candidate::Follows { plan, gap, .. } = &round.candidate {
+            if best.as_ref().is_none_or(|(least, _, _)| gap < least) {
+                best = Some((*gap, plan.clone(), round.y_tilde.clone()));
+            }
+        }
+    });
+    best.map(|(_, plan, y)| (plan, y))
+}

@@ -1,0 +1,124 @@
+//! Tapes, plans and multipliers made from a seed, the same for the same seed on every machine.
+//!
+//! [`tape`] gives a tape; [`case`] gives the same tape with slices to lend to the calls.
+
+pub mod commands;
+pub mod damage;
+pub mod furnaces;
+pub mod lent;
+pub mod random;
+
+pub use lent::Lent;
+pub use random::Random;
+
+use crate::model::Furnace;
+use crate::tape::read;
+
+/// What a generated tape is meant to be.
+#[derive(Clone, Copy, Debug, PartialEq, Eq, PartialOrd, Ord)]
+pub enum Kind {
+    /// Accepted, with numbers of all sizes.
+    Plain,
+    /// Accepted, with every number at a limit of its range.
+    Limits,
+    /// Accepted, tuned to end with 'proved'.
+    Proved,
+    /// Accepted, tuned to end with 'impossible'.
+    Impossible,
+    /// A tape of the kinds above with damages. Some are still accepted.
+    Damaged,
+    /// Bytes that are hardly a tape.
+    Noise,
+}
+
+impl Kind {
+    /// All kinds.
+    pub const ALL: [Kind; 6] = [
+        Kind::Plain,
+        Kind::Limits,
+        Kind::Proved,
+        Kind::Impossible,
+        Kind::Damaged,
+        Kind::Noise,
+    ];
+}
+
+/// A generated tape.
+#[derive(Clone, Debug, PartialEq, Eq)]
+pub struct GeneratedTape {
+    /// What it is meant to be.
+    pub kind: Kind,
+    /// The tape's bytes.
+    pub bytes: Vec<u8>,
+}
+
+/// A generated tape with slices for the calls.
+#[derive(Clone, Debug, PartialEq, Eq)]
+pub struct Case {
+    /// The tape.
+    pub tape: GeneratedTape,
+    /// Slices to judge: each plan with its multipliers, and each multipliers alone.
+    pub judged: Vec<Lent>,
+    /// Slices to lend to a solve.
+    pub solved: Vec<Lent>,
+}
+
+/// The tape of a seed.
+pub fn tape(seed: u64) -> GeneratedTape {
+    tape_from(&mut Random::new(seed))
+}
+
+/// The tape of a seed, and slices for the calls.
+pub fn case(seed: u64) -> Case {
+    let mut random = Random::new(seed);
+    let tape = tape_from(&mut random);
+    let (judged, solved) = match read(&tape.bytes) {
+        Ok(furnace) => (
+            lent::judged(&tape.bytes, &furnace, &mut random),
+            lent::to_solve(&furnace, &mut random),
+        ),
+        Err(_) => {
+            let (plan, multipliers) = (random.below(20), random.below(12));
+            let lent = lent::any_values(plan, multipliers, &mut random);
+            (vec![lent.clone()], vec![lent])
+        }
+    };
+    Case {
+        tape,
+        judged,
+        solved,
+    }
+}
+
+/// The next tape of a generator.
+fn tape_from(random: &mut Random) -> GeneratedTape {
+    let kind = match random.below(20) {
+        0..=2 => Kind::Plain,
+        3 => Kind::Limits,
+        4..=9 => Kind::Proved,
+        10..=13 => Kind::Impossible,
+        14..=18 => Kind::Damaged,
+        _ => Kind::Noise,
+    };
+    let bytes = match kind {
+        Kind::Plain => whole(&furnaces::plain(random), random),
+        Kind::Limits => whole(&furnaces::limits(random), random),
+        Kind::Proved => whole(&furnaces::proved(random), random),
+        Kind::Impossible => whole(&furnaces::impossible(random), random),
+        Kind::Damaged => {
+            let furnace = match random.below(4) {
+                0 => furnaces::limits(random),
+                1 => furnaces::proved(random),
+                _ => furnaces::plain(random),
+            };
+            damage::damaged(commands::of_furnace(&furnace, random), random)
+        }
+        Kind::Noise => damage::noise(random),
+    };
+    GeneratedTape { kind, bytes }
+}
+
+/// The whole tape of a furnace.
+fn whole(furnace: &Furnace, random: &mut Random) -> Vec<u8> {
+    commands::of_furnace(furnace, random).concat()
+}

@@ -1,0 +1,29 @@
+//! A second program for the sinter furnace planner.
+//!
+//! It is written from document 01 ("Sinter furnace planner: tape, plan, gap") alone, so that
+//! the planner's answers can be compared with it. It puts plainness before speed: the sums are
+//! written as the paper writes them, and all whole numbers have 128 bits.
+//!
+//! The modules follow the paper's sections: [`model`], [`tape`], [`floor`], [`rounds`],
+//! [`calls`], [`refusal`] and [`slip`]. [`cases`] answers a text of test cases, [`generate`]
+//! makes tapes, plans and multipliers from a seed, and [`count`] counts what they lead to.
+#![forbid(unsafe_code)]
+#![deny(missing_docs)]
+// The loops name the paper's indexes k, i and j.
+#![allow(clippy::needless_range_loop)]
+
+pub mod calls;
+pub mod cases;
+pub mod count;
+pub mod floor;
+pub mod generate;
+pub mod model;
+pub mod refusal;
+pub mod rounds;
+pub mod slip;
+pub mod tape;
+
+pub use calls::{judge_multipliers, judge_plan, read, solve, solve_traced, Shown, Solved};
+pub use model::{Furnace, Whole};
+pub use refusal::Refusal;
+pub use slip::slip;

@@ -1,0 +1,103 @@
+//! The program `reference`: see `reference --help`.
+#![forbid(unsafe_code)]
+
+use std::env;
+use std::io::{self, Read, Write};
+use std::process::ExitCode;
+
+use reference::cases::expect;
+use reference::count::count_cases;
+use reference::slip;
+
+const HELP: &str = "\
+reference: a second program for the sinter furnace planner, written from document 01 alone
+
+reference slip < TAPE
+    Writes the firing slip of the tape on standard input.
+
+reference expect < CASES
+    Writes the output expected from the planner's test programs. CASES is a text, one case a
+    line; blank lines and lines that begin with # are passed over. Parts may be empty; hex
+    digits may have blanks between bytes.
+        read HEX
+        judge HEX / plan numbers / multipliers
+        show HEX / multipliers
+        solve HEX / plan numbers / multipliers
+    Each case gives one line:
+        refused NUMBER CARRIED    CARRIED is an offset, R, or - for nothing
+        read ..                   118 numbers: n m N, A by rows of 6, B by rows of 4, w, lo,
+                                  hi, r, h, x(0), g, R, T; places beyond the sizes are 0
+        gap GAP                   of judge
+        shown                     of show
+        proved ROUNDS GAP d d d d    of solve, with u(0) in 4 places
+        impossible ROUNDS         of solve
+    After the line of a solve, refused or not, come two more lines, `plan ..` and
+    `multipliers ..`, with what the slices hold at exit.
+
+reference generate [COUNT [SEED]]
+    Makes COUNT (10000) cases from the seeds SEED (0), SEED + 1, .., runs them through all
+    calls and writes how often each answer and each refusal came. Fails if one never came,
+    which is to be expected of a small COUNT.
+";
+
+fn main() -> ExitCode {
+    let arguments: Vec<String> = env::args().skip(1).collect();
+    let words: Vec<&str> = arguments.iter().map(String::as_str).collect();
+    match run(&words) {
+        Ok(()) => ExitCode::SUCCESS,
+        Err(error) => {
+            eprintln!("reference: {error}");
+            ExitCode::FAILURE
+        }
+    }
+}
+
+/// Runs a subcommand.
+fn run(words: &[&str]) -> Result<(), String> {
+    match words {
+        ["--help" | "-h" | "help"] => write_out(HELP),
+        ["slip"] => write_out(&slip(&standard_input()?)),
+        ["expect"] => {
+            let text = String::from_utf8(standard_input()?);
+            let text = text.map_err(|_| "the cases are no text")?;
+            write_out(&expect(&text)?)
+        }
+        ["generate"] => generate(10_000, 0),
+        ["generate", count] => generate(number(count)?, 0),
+        ["generate", count, seed] => generate(number(count)?, number(seed)?),
+        _ => Err("no such subcommand; see reference --help".to_string()),
+    }
+}
+
+/// Writes the counts, and fails if one is 0.
+fn generate(count: u64, seed: u64) -> Result<(), String> {
+    let counts = count_cases(count, seed);
+    write_out(&counts.text())?;
+    let zeros = counts.zeros();
+    if zeros.is_empty() {
+        write_out("no count is 0\n")
+    } else {
+        Err(format!("these counts are 0: {}", zeros.join("; ")))
+    }
+}
+
+/// A whole number from an argument.
+fn number(word: &str) -> Result<u64, String> {
+    word.parse()
+        .map_err(|_| format!("`{word}` is not a whole number"))
+}
+
+/// All bytes of standard input.
+fn standard_input() -> Result<Vec<u8>, String> {
+    let mut bytes = Vec::new();
+    match io::stdin().read_to_end(&mut bytes) {
+        Ok(_) => Ok(bytes),
+        Err(error) => Err(error.to_string()),
+    }
+}
+
+/// Writes a text to standard output.
+fn write_out(text: &str) -> Result<(), String> {
+    let written = io::stdout().write_all(text.as_bytes());
+    written.map_err(|error| error.to_string())
+}

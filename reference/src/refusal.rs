@@ -1,0 +1,101 @@
+//! The refusals, 1 to 15.
+
+/// Why a call gives no answer. Each case holds what the refusal carries.
+#[derive(Clone, Copy, Debug, PartialEq, Eq, PartialOrd, Ord)]
+pub enum Refusal {
+    /// 1: the tape ends inside a command, or before FF.
+    Cut {
+        /// Of the command byte; before FF, the tape's length.
+        offset: usize,
+    },
+    /// 2: command byte not in the table.
+    Unknown {
+        /// Of the command byte.
+        offset: usize,
+    },
+    /// 3: first command not 10, or a second 10.
+    Misplaced {
+        /// Of the command byte.
+        offset: usize,
+    },
+    /// 4: index outside the size.
+    NoSuchPlace {
+        /// Of the command byte.
+        offset: usize,
+    },
+    /// 5: an operand outside its range, or lo > hi.
+    OutOfRange {
+        /// Of the command byte.
+        offset: usize,
+    },
+    /// 6: the same place, or 50, given again.
+    Twice {
+        /// Of the command byte.
+        offset: usize,
+    },
+    /// 7: at FF, something required was not given.
+    Absent {
+        /// Of FF.
+        offset: usize,
+    },
+    /// 8: bytes after FF.
+    Overrun {
+        /// The offset after FF.
+        offset: usize,
+    },
+    /// 9: a lent slice has not the length that the tape's sizes ask for.
+    Length,
+    /// 10: a state of the plan differs from the model.
+    OffModel,
+    /// 11: a plan number outside lo to hi.
+    OverLimit,
+    /// 12: a multiplier outside its range.
+    Multiplier,
+    /// 13: gap above T.
+    Wide,
+    /// 14: multipliers do not show impossibility.
+    NotShown,
+    /// 15: R rounds without 'proved' or 'impossible'.
+    Open {
+        /// The tape's R.
+        rounds: u32,
+    },
+}
+
+impl Refusal {
+    /// The paper's number, word and carried number of the refusal.
+    fn entry(self) -> (u32, &'static str, Option<usize>) {
+        match self {
+            Refusal::Cut { offset } => (1, "cut", Some(offset)),
+            Refusal::Unknown { offset } => (2, "unknown", Some(offset)),
+            Refusal::Misplaced { offset } => (3, "misplaced", Some(offset)),
+            Refusal::NoSuchPlace { offset } => (4, "no such place", Some(offset)),
+            Refusal::OutOfRange { offset } => (5, "out of range", Some(offset)),
+            Refusal::Twice { offset } => (6, "twice", Some(offset)),
+            Refusal::Absent { offset } => (7, "absent", Some(offset)),
+            Refusal::Overrun { offset } => (8, "overrun", Some(offset)),
+            Refusal::Length => (9, "length", None),
+            Refusal::OffModel => (10, "off model", None),
+            Refusal::OverLimit => (11, "over limit", None),
+            Refusal::Multiplier => (12, "multiplier", None),
+            Refusal::Wide => (13, "wide", None),
+            Refusal::NotShown => (14, "not shown", None),
+            Refusal::Open { rounds } => (15, "open", Some(rounds as usize)),
+        }
+    }
+
+    /// The number, 1 to 15.
+    pub fn number(self) -> u32 {
+        self.entry().0
+    }
+
+    /// The word in the paper's table.
+    pub fn word(self) -> &'static str {
+        self.entry().1
+    }
+
+    /// An offset for 1 to 8, R for 15, nothing for 9 to 14.
+    pub fn carried(self) -> Option<usize> {
+        self.entry().2
+    }
+}

@@ -1,0 +1,29 @@
+//! The firing slip.
+
+use crate::calls::{read, solve, Solved};
+use crate::refusal::Refusal;
+
+/// The text that the printing program writes for a tape.
+pub fn slip(tape: &[u8]) -> String {
+    let furnace = match read(tape) {
+        Ok(furnace) => furnace,
+        Err(refusal) => {
+            let offset = refusal.carried().expect("a tape refusal carries an offset");
+            return format!("refused {} at {offset}\n", refusal.number());
+        }
+    };
+    let mut plan = vec![0; furnace.plan_length()];
+    let mut multipliers = vec![0; furnace.multipliers_length()];
+    match solve(tape, &mut plan, &mut multipliers) {
+        Ok(Solved::Proved { rounds, gap, first }) => {
+            let mut text = format!("proved\nrounds {rounds}\ngap {gap}\nfirst");
+            for duty in &first[..furnace.inputs] {
+                text += &format!(" {duty}");
+            }
+            text + "\n"
+        }
+        Ok(Solved::Impossible { rounds }) => format!("impossible\nrounds {rounds}\n"),
+        Err(Refusal::Open { rounds }) => format!("open\nrounds {rounds}\n"),
+        Err(_) => unreachable!("the tape is whole and the slices have their lengths"),
+    }
+}

@@ -1,0 +1,86 @@
+//! The text of cases and the expected output.
+
+mod tapes;
+
+use reference::cases::{expect, read_numbers};
+use reference::read;
+use tapes::*;
+
+#[test]
+fn every_call() {
+    let f = format!("{F_FRONT} 50 19 00 05 00 40 9C 00 00 FF");
+    let m9 = format!("{M9_FRONT} 50 19 00 05 00 40 9C 00 00 FF");
+    let open = format!("{F_FRONT} 50 19 00 05 00 30 75 00 00 FF");
+    let cases = format!(
+        "# tape F\n\
+         judge {f} / 4 102 / -16\n\
+         judge {f}/3 102/-16\n\
+         judge {f} / 4 103 / -16\n\
+         \n\
+         \x20 show {m9} / -100\n\
+         show {m9} / 0\n\
+         solve {f} / 7 8 / 9\n\
+         solve {m9} / 7 8 / 9\n\
+         solve {open} / 7 8 / 9\n\
+         solve {f} / 7 / \n\
+         solve / / 5\n\
+         read 1001\n\
+         read\n"
+    );
+    let expected = "gap 32768\n\
+        gap 4096\n\
+        refused 10 -\n\
+        shown\n\
+        refused 14 -\n\
+        proved 2 32768 4 0 0 0\nplan 4 102\nmultipliers -16\n\
+        impossible 2\nplan 7 8\nmultipliers -234\n\
+        refused 15 5\nplan 7 8\nmultipliers 9\n\
+        refused 9 -\nplan 7\nmultipliers\n\
+        refused 1 0\nplan\nmultipliers 5\n\
+        refused 1 0\n\
+        refused 1 0\n";
+    assert_eq!(expect(&cases).unwrap(), expected);
+}
+
+#[test]
+fn read_line_has_all_places() {
+    let tape = with_search(PAIR_FRONT, 3, 7, 9);
+    let numbers = read_numbers(&read(&tape).unwrap());
+    let mut expected = vec![0; 118];
+    expected[..3].copy_from_slice(&[2, 2, 2]);
+    // A from place 3 in rows of 6, B from 39 in rows of 4.
+    (expected[3], expected[4], expected[3 + 6 + 1]) = (4096, 2048, 4096);
+    (expected[39], expected[39 + 4 + 1]) = (4096, 4096);
+    // w from 63, lo from 69, hi from 79, r from 89, h from 99, x(0) from 109.
+    expected[64] = 8192;
+    expected[69..73].copy_from_slice(&[-1000; 4]);
+    expected[79..83].copy_from_slice(&[1000; 4]);
+    expected[89..93].copy_from_slice(&[20, 25, 0, 1]);
+    expected[99..103].copy_from_slice(&[1, 2, 3, 4]);
+    expected[109..111].copy_from_slice(&[10, 20]);
+    expected[115..].copy_from_slice(&[3, 7, 9]);
+    assert_eq!(numbers, expected);
+    let digits: String = tape.iter().map(|byte| format!("{byte:02x}")).collect();
+    let line = expect(&format!("read {digits}")).unwrap();
+    let words: Vec<String> = expected.iter().map(|number| number.to_string()).collect();
+    assert_eq!(line, format!("read {}\n", words.join(" ")));
+}
+
+#[test]
+fn texts_that_are_no_cases() {
+    let wrong = [
+        "sovle 10 / / ",
+        "read 1",
+        "read 1g",
+        "read +1",
+        "read 10 / 1",
+        "judge 10 / 1",
+        "show 10",
+        "show 10 / 1.5",
+        "show 10 / 2147483648",
+    ];
+    for line in wrong {
+        let error = expect(&format!("read 10\n{line}\n")).unwrap_err();
+        assert!(error.starts_with("line 2: "), "{line}: {error}");
+    }
+}

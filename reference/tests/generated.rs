@@ -1,0 +1,172 @@
+//! What must hold of every generated case.
+
+use reference::generate::{case, tape, Case, Kind};
+use reference::model::{cost, follows_tape};
+use reference::rounds::{Candidate, Ending, Round};
+use reference::*;
+
+/// The seeds of these tests.
+const SEEDS: std::ops::Range<u64> = 0..1_500;
+
+/// Document 01: at these limits no sum passes this size.
+const MOST: Whole = 5_000_000_000_000_000_000;
+
+/// A solve's answer, and the plan and the multipliers at exit.
+type Exit = (Result<Solved, Refusal>, Vec<i32>, Vec<i32>);
+
+/// Solves with each of the case's slices.
+fn solved(case: &Case) -> Vec<Exit> {
+    let solve_one = |lent: &generate::Lent| {
+        let (mut plan, mut multipliers) = (lent.plan.clone(), lent.multipliers.clone());
+        let answer = solve(&case.tape.bytes, &mut plan, &mut multipliers);
+        (answer, plan, multipliers)
+    };
+    case.solved.iter().map(solve_one).collect()
+}
+
+#[test]
+fn same_seed_same_case() {
+    for seed in 0..100 {
+        let one = case(seed);
+        assert_eq!(one, case(seed));
+        assert_eq!(one.tape, tape(seed));
+    }
+}
+
+#[test]
+fn kinds_meant_to_be_accepted_are() {
+    let mut longest = 0;
+    for seed in SEEDS {
+        let tape = tape(seed);
+        if ![Kind::Damaged, Kind::Noise].contains(&tape.kind) {
+            assert!(read(&tape.bytes).is_ok(), "seed {seed}");
+            longest = longest.max(tape.bytes.len());
+        }
+    }
+    assert_eq!(longest, 464);
+}
+
+#[test]
+fn judging_what_a_solve_wrote() {
+    for seed in SEEDS {
+        let case = case(seed);
+        let tape = &case.tape.bytes;
+        for ((answer, plan, multipliers), lent) in solved(&case).into_iter().zip(&case.solved) {
+            match answer {
+                Ok(Solved::Proved { gap, first, .. }) => {
+                    assert_eq!(
+                        judge_plan(tape, &plan, &multipliers),
+                        Ok(gap),
+                        "seed {seed}"
+                    );
+                    let inputs = read(tape).unwrap().inputs;
+                    assert_eq!(first[..inputs], plan[..inputs], "seed {seed}");
+                    assert!(first[inputs..].iter().all(|duty| *duty == 0), "seed {seed}");
+                }
+                Ok(Solved::Impossible { .. }) => {
+                    assert_eq!(
+                        judge_multipliers(tape, &multipliers),
+                        Ok(Shown),
+                        "seed {seed}"
+                    );
+                    assert_eq!(plan, lent.plan, "seed {seed}");
+                }
+                Err(_) => {
+                    assert_eq!((&plan, &multipliers), (&lent.plan, &lent.multipliers));
+                }
+            }
+        }
+    }
+}
+
+#[test]
+fn shown_and_accepted_exclude_each_other() {
+    for seed in SEEDS {
+        let case = case(seed);
+        let tape = &case.tape.bytes;
+        let plans = case.judged.iter();
+        let accepted = plans.filter(|lent| judge_plan(tape, &lent.plan, &lent.multipliers).is_ok());
+        let multipliers = case.judged.iter();
+        let shown = multipliers.filter(|lent| judge_multipliers(tape, &lent.multipliers).is_ok());
+        assert!(accepted.count() == 0 || shown.count() == 0, "seed {seed}");
+    }
+}
+
+/// Checks one round against what the paper says of it, in ways other than the rounds' own.
+fn check_round(furnace: &Furnace, round: &Round) {
+    // The floor without its last term is the least of K + sum of y × e over the limits. Step
+    // 2's numbers are within half a unit of that least: P / 4 each, and rounding.
+    let (mut products, mut size, mut slack) = (0, 0, 0);
+    for k in 0..furnace.horizon {
+        for i in 0..furnace.states {
+            products += round.y_tilde[k][i] * round.residuals[k][i];
+            size += round.y_tilde[k][i].abs();
+        }
+        for column in &furnace.columns {
+            slack += column.price() / 4 + 1;
+        }
+    }
+    let numbers_cost = cost(furnace, &round.numbers);
+    let least = round.floor + 2048 * size;
+    assert!(least <= numbers_cost + products);
+    assert!(numbers_cost + products <= least + slack);
+    assert!(numbers_cost <= round.ceiling);
+    assert!(round.floor.abs() <= MOST && round.ceiling <= MOST);
+    if let Candidate::Follows { plan, cost, gap } = &round.candidate {
+        assert!(follows_tape(furnace, plan));
+        assert_eq!(plan.u, round.numbers.u);
+        assert_eq!(cost - gap, round.floor);
+        assert!(0 <= *gap && *gap <= MOST);
+        assert_ne!(round.ending, Ending::Impossible);
+    }
+}
+
+#[test]
+fn rounds_of_generated_tapes() {
+    for seed in 0..400 {
+        let case = case(seed);
+        let Ok(furnace) = read(&case.tape.bytes) else {
+            continue;
+        };
+        let mut plan = vec![0; furnace.plan_length()];
+        let mut multipliers = vec![0; furnace.multipliers_length()];
+        let mut entered = 0;
+        let mut next = vec![vec![0; furnace.states]; furnace.horizon];
+        let watch = &mut |round: &Round| {
+            assert_eq!(round.k, entered);
+            assert_eq!(round.y, next);
+            check_round(&furnace, round);
+            entered += 1;
+            if let Ending::Next(y) = &round.ending {
+                next = y.clone();
+            }
+        };
+        let answer = solve_traced(&case.tape.bytes, &mut plan, &mut multipliers, watch);
+        let rounds = match answer {
+            Ok(Solved::Proved { rounds, .. } | Solved::Impossible { rounds }) => rounds,
+            Err(refusal) => {
+                let rounds = furnace.rounds;
+                assert_eq!(refusal, Refusal::Open { rounds });
+                rounds
+            }
+        };
+        assert_eq!(rounds, entered, "seed {seed}");
+        assert!(rounds <= furnace.rounds);
+    }
+}
+
+#[test]
+fn few_seeds_lead_to_every_answer() {
+    // The program `reference generate` counts more of them.
+    let counts = count::count_cases(1_500, 50_000);
+    for answer in ["proved", "impossible", "refused 9", "refused 15"] {
+        assert!(counts.count("solve", answer) > 0, "{answer}");
+    }
+    for number in 1..=13 {
+        let name = format!("refused {number}");
+        assert!(counts.count("judge plan", &name) > 0, "{name}");
+    }
+    for answer in ["shown", "refused 12", "refused 14"] {
+        assert!(counts.count("judge multipliers", answer) > 0, "{answer}");
+    }
+}

@@ -9,7 +9,7 @@ use native.Mathlib.Decide.{decLe}
 use lib.Dec.{ltb}
 use lib.ListN.{length, take, drop, getD, length-take, length-drop, List·getD-eq-default}
 use lib.Seq.{drop-cons, take-add, drop-drop, getD-take, getD-drop}
-use lib.IntN.{ℤ, pos, negℤ, _-ℤ_, _*ℤ_}
+use lib.IntN.{pos, negℤ, _-ℤ_, _*ℤ_}
 use mir.Syntax.{w8}
 use mir.Val.{Fits}
 use borrow.Author.Tests.{ltb-true, ltb-false}

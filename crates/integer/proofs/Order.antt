@@ -2,17 +2,18 @@
 -- `≼`, `≺` and `≡` of whole numbers and read the tests `ltZ a b ≡ true` and the like; the list has `plus a b` for each sum,
 -- `minus a b` for each difference and `negated a` for each negation that occurs. A product counts as a number of its own.
 use Prim.Native.Nat.{ℕ, suc, _+_, _*_, _<_, _≤_}
-use mathlib.Core.Path.{_≡_, refl, sym, _∙_, subst, subst⁻¹}
+use mathlib.Core.Path.{_≡_, refl, subst, subst⁻¹}
 use mathlib.Core.Logic.{_⊎_, inl, inr}
 use mathlib.Core.Bool.{Bool, true, false}
 use native.Mathlib.Omega.{arith}
 use native.Mathlib.Nat.{mul-le-mul-left}
 use native.Mathlib.Decide.{decLe}
 use lib.Dec.{T, leb→le, le→leb, ltb→lt, lt→ltb}
-use lib.IntN.{ℤ, pos, negsuc, negℤ, _+ℤ_, _-ℤ_, _*ℤ_}
+use lib.IntN.{ℤ, pos, negsuc, _+ℤ_, _-ℤ_, _*ℤ_}
 use lib.Signed.{leZ, ltZ}
 use Rattle.integer.specs.Order.{_≼_, _≺_}
-use Rattle.integer.proofs.Parts.{up, dn, same-parts, plus, minus, negated, times}
+use Rattle.integer.proofs.Ring.{ring, K, _⊖_, _⊗_, _≐_}
+use Rattle.integer.proofs.Parts.{up, dn, same-parts, plus, minus, times}
 
 -- ---- The order by the parts
 
@@ -118,6 +119,9 @@ pub mul-nonneg : {a b : ℤ} → pos 0 ≼ a → pos 0 ≼ b → pos 0 ≼ a *�
 mul-nonneg {a = pos m} {b = pos n} h k = omega (arith, order)
 mul-nonneg {a = pos m} {b = negsuc n} h k = absurd (k .le)
 mul-nonneg {a = negsuc m} h k = absurd (h .le)
+
+pub mul-nonpos : {a b : ℤ} → a ≼ pos 0 → b ≼ pos 0 → pos 0 ≼ a *ℤ b
+mul-nonpos {a} {b} h k = rw (ring 2 (λ a b. a ⊗ b ≐ (K 0 ⊖ a) ⊗ (K 0 ⊖ b)) tt a b) (mul-nonneg (diff-nonneg h) (diff-nonneg k))
 
 pub square-nonneg : (a : ℤ) → pos 0 ≼ a *ℤ a
 square-nonneg (pos n) = omega (arith, order)

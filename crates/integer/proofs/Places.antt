@@ -9,7 +9,7 @@ use native.Mathlib.Nat.{div-add-mod, mod-lt, div-lt-iff-lt-mul}
 use lib.ListN.{length, length-set, getD, set, take, drop, replicate, List·getD-append}
 use lib.Seq.{getD-set-same, getD-set-other, getD-take, getD-drop, drop-at, length-take-le, ext-getD}
 use lib.IntN.{ℤ, pos, natAbs}
-use borrow.Rule.Slice.PartMut.{putMid, midOf, take-put, drop-put, same-len-mid, mid-len}
+use borrow.Rule.Slice.PartMut.{putMid, take-put, drop-put, same-len-mid, mid-len}
 use Rattle.integer.specs.Places.{at, Bounded, Stretch, Steps}
 
 pub lt-or-le : (a b : ℕ) → (a < b) ⊎ (b ≤ a)

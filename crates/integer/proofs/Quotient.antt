@@ -1,9 +1,9 @@
 -- The quotient rounded down, for a divisor from 1: what fixes it, and how the machine's quotient, rounded toward 0, gives it.
-use Prim.Native.Nat.{ℕ, suc, _+_, _*_, _/_, _%_, _<_, _≤_}
+use Prim.Native.Nat.{ℕ, suc, _+_, _*_, _/_, _<_, _≤_}
 use mathlib.Core.Path.{_≡_, refl, sym, _∙_, ap}
 use native.Mathlib.Omega.{arith}
 use native.Mathlib.Nat.{div-add-mod, mod-lt, div-le-self}
-use lib.IntN.{ℤ, pos, negsuc, negℤ, natAbs, _+ℤ_, _-ℤ_, _*ℤ_}
+use lib.IntN.{ℤ, pos, negsuc, natAbs, _+ℤ_, _-ℤ_, _*ℤ_}
 use lib.Signed.{quotZ}
 use mir.Syntax.{Width}
 use mir.Val.{SFits, ofZ}
@@ -11,8 +11,8 @@ use Rattle.integer.specs.Order.{_≼_, _≺_}
 use Rattle.integer.specs.Quotient.{_÷_}
 use Rattle.integer.proofs.Parts.{up, dn, plus, minus, negated, times}
 use Rattle.integer.proofs.Ring.{ring, K, _⊕_, _⊖_, _⊗_, _≐_}
-use Rattle.integer.proofs.Order.{order, le-by, lt→, →lt, mul-cancel-lt, diff-nonneg}
-use Rattle.integer.proofs.Sizes.{fit, →fits, size-neg}
+use Rattle.integer.proofs.Order.{order, le-by, mul-cancel-lt, diff-nonneg}
+use Rattle.integer.proofs.Sizes.{fit, →fits}
 
 -- ---- d q ≤ z < d (q + 1) fixes q
 

@@ -1,5 +1,5 @@
 -- The quotient of a square: with a = s ÷ d and b = s − a d, s s ÷ d is a (s + b) + b b ÷ d.
-use Prim.Native.Nat.{ℕ, _^_, _<_, _≤_}
+use Prim.Native.Nat.{_^_, _<_, _≤_}
 use mathlib.Core.Path.{_≡_, sym, _∙_, ap}
 use native.Mathlib.Omega.{arith}
 use native.Mathlib.Nat.{le-refl}

@@ -3,11 +3,10 @@ use Prim.Native.Nat.{ℕ, zero, suc, _+_, _*_, _-_, _<_, _≤_}
 use mathlib.Core.Path.{_≡_, refl, sym, _∙_, ap, ap₂}
 use native.Mathlib.Numerals.{add-one}
 use native.Mathlib.Omega.{arith}
-use native.Mathlib.Nat.{le-refl}
-use lib.IntN.{ℤ, pos, natAbs, _+ℤ_, _-ℤ_, _*ℤ_, +ℤ-idl, +ℤ-idr, +ℤ-assoc, *ℤ-zero, *ℤ-comm}
+use lib.IntN.{ℤ, pos, natAbs, _+ℤ_, _-ℤ_, _*ℤ_, +ℤ-idr, +ℤ-assoc, +ℤ-comm, *ℤ-zero, *ℤ-comm}
 use Rattle.integer.specs.Order.{_≼_}
 use Rattle.integer.specs.Sum.{sum}
-use Rattle.integer.proofs.Ring.{ring, mul-add, con, K, _⊕_, _⊖_, _⊗_, _≐_}
+use Rattle.integer.proofs.Ring.{ring, mul-add, _⊕_, _⊖_, _⊗_, _≐_}
 use Rattle.integer.proofs.Order.{order, add-le}
 use Rattle.integer.proofs.Sizes.{size-add}
 
@@ -28,9 +27,14 @@ sum-split n (suc m) f =
     let e : n + suc m ≡ suc (n + m) = omega arith in
     ap (λ (k : ℕ). sum k f) e ∙ ap (λ (x : ℤ). x +ℤ f (n + m)) (sum-split n m f) ∙ +ℤ-assoc (sum n f) (sum m (λ j. f (n + j))) (f (n + m))
 
-pub sum-first : (n : ℕ) (f : ℕ → ℤ) → sum (1 + n) f ≡ f 0 +ℤ sum n (λ j. f (1 + j))
+pub sum-first : (n : ℕ) (f : ℕ → ℤ) → sum (n + 1) f ≡ f 0 +ℤ sum n (λ j. f (j + 1))
 unfolding sum
-sum-first n f = sum-split 1 n f ∙ ap (λ (x : ℤ). x +ℤ sum n (λ j. f (1 + j))) (+ℤ-idl (f 0))
+sum-first zero f = +ℤ-comm (pos 0) (f 0)
+sum-first (suc n) f =
+    let e : n + 1 ≡ suc n = omega arith in
+    ap (λ (k : ℕ). sum k f) (add-one (suc n)) ∙ ap (λ (k : ℕ). sum k f +ℤ f (suc n)) (sym e)
+    ∙ ap (λ (x : ℤ). x +ℤ f (suc n)) (sum-first n f)
+    ∙ ap (λ (k : ℕ). f 0 +ℤ sum n (λ j. f (j + 1)) +ℤ f k) (sym e) ∙ +ℤ-assoc (f 0) (sum n (λ j. f (j + 1))) (f (n + 1))
 
 -- ---- Congruence and linearity
 

@@ -1,9 +1,9 @@
 -- Each step is read back as the number that it stands for, from the inside out; then its size shows that it fits.
-use Prim.Native.Nat.{_^_, _<_, _≤_}
+use Prim.Native.Nat.{_<_}
 use mathlib.Core.Path.{_≡_, _∙_}
 use native.Mathlib.Nat.{le-trans}
 use native.Mathlib.Omega.{arith}
-use lib.IntN.{ℤ, natAbs, _+ℤ_, _-ℤ_, _*ℤ_}
+use lib.IntN.{ℤ, _+ℤ_, _*ℤ_}
 use lib.Signed.{quotZ}
 use mir.Syntax.{w64}
 use mir.Val.{SFits, toZ, ofZ}

@@ -1,0 +1,334 @@
+-- `legal`: every accepted tape is legal. From command 10 on each command keeps `Good`; FF finds the marks, and they say the rest.
+use Prim.Native.Nat.{ℕ, zero, suc, _+_, _*_, _^_, _<_, _≤_}
+use mathlib.Core.Path.{_≡_, refl, sym, _∙_, subst}
+use mathlib.Core.Logic.{_⊎_, inl, inr, ⊎-elim}
+use mathlib.Core.Bool.{Bool, true, false, not, cond, true≢false, false≢true}
+use mathlib.Core.List.{List, [], _∷_}
+use native.Mathlib.Omega.{arith}
+use native.Mathlib.Decide.{ℕ-discrete}
+use borrow.Author.Tests.{ltb-false, leb-false, not-false}
+use lib.Dec.{eqb, ltb, leb}
+use lib.ListN.{length, getD, set, replicate, length-set, length-replicate, getD-replicate}
+use lib.Seq.{getD-set-same, getD-set-other}
+use lib.IntN.{ℤ, pos, negsuc, negℤ, natAbs}
+use lib.Signed.{ltZ}
+use Rattle.integer.specs.Order.{_≼_}
+use Rattle.integer.specs.Places.{at, Bounded}
+use Rattle.integer.proofs.Order.{order}
+use Rattle.integer.proofs.Sizes.{size-by, size-parts}
+use Rattle.integer.proofs.Operand.{Bytes, unsigned-range}
+use Rattle.integer.proofs.Places.{lt-or-le, zeros}
+use Rattle.tape.specs.declared.Answer.the-variants as answer
+use Rattle.tape.specs.declared.Reading.{Reading}
+use Rattle.tape.specs.declared.Tape.{Tape}
+use Rattle.tape.specs.declared.command.Command.{Command}
+use Rattle.tape.specs.declared.command.Command.the-variants as command
+use Rattle.tape.specs.declared.command.Entry.{Entry}
+use Rattle.tape.specs.declared.command.Entry.the-variants.{State, Input, Drift, Column, Start, Rounds}
+use Rattle.tape.specs.declared.reader.Reader.{Reader}
+use Rattle.tape.specs.declared.reader.Verdict.{Verdict}
+use Rattle.tape.specs.declared.reader.Verdict.the-variants.{Going, Ended, Refused}
+use Rattle.tape.specs.declared.refusal.Refusal.{Refusal}
+use Rattle.tape.specs.declared.refusal.Refusal.the-variants.{Cut}
+use Rattle.tape.specs.Tape.{blank}
+use Rattle.tape.specs.Format.{whole, decoded, sizeCommand, stateCommand, inputCommand, driftCommand, columnCommand, startCommand, roundsCommand}
+use Rattle.tape.specs.Format.{wrongSize, beyond, outside, wrongColumn, wrong, placeOf, withSize, with}
+use Rattle.tape.specs.Legal.{Legal}
+use Rattle.tape.specs.Reading.{marked, sized, lacks, absent, next, refusedTape, outcome, readFrom, opened, reading}
+use Rattle.tape.proofs.Tests.{by-test, none}
+use Rattle.tape.proofs.Steps.{next-leads}
+
+-- ---- Command 50: no test limits `gain` from above, nor `wanted`; the widths of their operands do
+
+data Ranged : Command → Type 0 where
+  unknown : Ranged command.Unknown
+  cut : Ranged command.Cut
+  end : Ranged command.End
+  size : {n m horizon : ℕ} → Ranged (command.Size n m horizon)
+  state : {i j : ℕ} {v : ℤ} → Ranged (command.Give (State i j v))
+  input : {i j : ℕ} {v : ℤ} → Ranged (command.Give (Input i j v))
+  drift : {i : ℕ} {v : ℤ} → Ranged (command.Give (Drift i v))
+  column : {c : ℕ} {lo hi r h : ℤ} → Ranged (command.Give (Column c lo hi r h))
+  start : {i : ℕ} {v : ℤ} → Ranged (command.Give (Start i v))
+  rounds : {g r w : ℕ} → g < 256 ^ 2 → w < 256 ^ 4 → Ranged (command.Give (Rounds (pos g) r (pos w)))
+
+ranged : (s : List ℕ) (at : ℕ) → Bytes s → Ranged (decoded s at)
+unfolding decoded sizeCommand stateCommand inputCommand driftCommand columnCommand startCommand roundsCommand
+ranged s at b =
+    row 0x10 3 (λ _. size) (row 0x20 4 (λ _. state) (row 0x21 4 (λ _. input) (row 0x22 5 (λ _. drift) (row 0x30 8 (λ _. column) (row 0x40 3 (λ _. start)
+    (row 0x50 8 (λ h. rounds (unsigned-range 2 s (at + 1) b (omega arith)) (unsigned-range 4 s (at + 5) b (omega arith)))
+    (by-test Ranged (eqb (getD s at 0) 0xFF) (λ _. end) (λ _. unknown))))))))
+  where
+    row : (byte operands : ℕ) {c others : Command} → (at + operands < length s → Ranged c) → Ranged others →
+        Ranged (cond (eqb (getD s at 0) byte) (whole operands s at c) others)
+    row byte operands h o =
+        by-test Ranged (eqb (getD s at 0) byte) (λ _. by-test Ranged (leb (length s) (at + operands)) (λ _. cut) (λ e. h (leb-false _ _ e))) (λ _. o)
+
+-- what command 50 gives
+record Timed (g : ℤ) (r : ℕ) (w : ℤ) : Type 0 where
+  gain : (pos 1 ≼ g) × (g ≼ pos 65535)
+  rounds : (1 ≤ r) × (r ≤ 10000)
+  wanted : (pos 0 ≼ w) × (w ≼ pos 4294967295)
+
+timed : {g : ℤ} {r : ℕ} {w : ℤ} → Ranged (command.Give (Rounds g r w)) → wrong (Rounds g r w) ≡ false → Timed g r w
+unfolding wrong
+timed (rounds {g} {r} {w} x y) e =
+    let o = none (ltZ (pos g) (pos 1)) (ltb r 1 ∷ ltb 10000 r ∷ []) e in omega (arith, order, ltb-false)
+
+-- ---- Tables
+
+-- L numbers, each at most B in size, and 0 where the place is blank
+record Table (L B : ℕ) (Blank : ℕ → Type 0) (l : List ℤ) : Type 0 where
+  long : length l ≡ L
+  bounded : Bounded B l
+  blank : (p : ℕ) → Blank p → at l p ≡ pos 0
+
+-- the place of no row and column
+abbrev Off : ℕ → ℕ → ℕ → ℕ → Type 0
+Off stride rows columns p = (i j : ℕ) → (i < rows) × (j < columns) → p ≡ stride * i + j → ⊥
+
+table-none : {L B : ℕ} {Blank : ℕ → Type 0} → Table L B Blank (replicate L (pos 0))
+table-none {L} =
+    record { long = length-replicate L (pos 0); bounded = record { each = λ p. rw (zeros L p) (omega arith) }; blank = λ p _. zeros L p }
+
+-- what the stored number has, and every other had
+at-stored : (P : ℕ → ℤ → Type 0) (l : List ℤ) (k p : ℕ) (v : ℤ) → k < length l →
+    P k v → ((p ≡ k → ⊥) → P p (at l p)) → P p (at (set l k v) p)
+at-stored P l k p v room here other = go (ℕ-discrete p k)
+  where
+    go : Dec (p ≡ k) → P p (at (set l k v) p)
+    go (yes e) = rw (e, getD-set-same l k v (pos 0) room) here
+    go (no n) = rw (getD-set-other l k p v (pos 0) n) (other n)
+
+stored : {L B : ℕ} {Blank : ℕ → Type 0} {l : List ℤ} (k : ℕ) (v : ℤ) → Table L B Blank l →
+    (k < L) × (Blank k → ⊥) → natAbs v ≤ B → Table L B Blank (set l k v)
+stored {L} {B} {Blank} {l} k v t h b =
+    let room : k < length l = omega arith in
+    record {
+      long = length-set l k v ∙ t .long;
+      bounded = record { each = λ p. at-stored (λ _ x. natAbs x ≤ B) l k p v room b (λ _. t .bounded .each p) };
+      blank = λ p. at-stored (λ q x. Blank q → x ≡ pos 0) l k p v room (λ n. absurd (h .1 n)) (λ _. t .blank p);
+    }
+
+-- ---- What every command keeps, from command 10 on
+
+record Sizes (n m horizon : ℕ) : Type 0 where
+  states : (1 ≤ n) × (n ≤ 6)
+  inputs : (1 ≤ m) × (m ≤ 4)
+  steps : (1 ≤ horizon) × (horizon ≤ 12)
+
+record Columns (w : ℕ) (lo hi r h : List ℤ) : Type 0 where
+  low : Table 10 20000 (λ p. w ≤ p) lo
+  high : Table 10 20000 (λ p. w ≤ p) hi
+  reference : Table 10 20000 (λ p. w ≤ p) r
+  weight : Table 10 255 (λ p. w ≤ p) h
+  ordered : (p : ℕ) → at lo p ≼ at hi p
+
+-- what the marks of the columns and of command 50 say
+record Marks (w : ℕ) (h : List ℤ) (gain : ℤ) (rounds : ℕ) (wanted : ℤ) (given : List Bool) : Type 0 where
+  weighed : (p : ℕ) → p < w → marked given (66 + p) ≡ true → pos 1 ≼ at h p
+  timed : marked given 82 ≡ true → Timed gain rounds wanted
+
+-- sizes, A, B, w, x(0), columns, marks
+data Good (t : Tape) (given : List Bool) : Type 0 where
+  good : Sizes (t .n) (t .m) (t .horizon) →
+      Table 36 16384 (Off 6 (t .n) (t .n)) (t .a) →
+      Table 24 16384 (Off 4 (t .n) (t .m)) (t .b) →
+      Table 6 16777216 (λ p. t .n ≤ p) (t .drift) →
+      Table 6 20000 (λ p. t .n ≤ p) (t .start) →
+      Columns (t .n + t .m) (t .low) (t .high) (t .reference) (t .weight) →
+      Marks (t .n + t .m) (t .weight) (t .gain) (t .rounds) (t .wanted) given →
+      Good t given
+
+-- ---- Each command keeps it
+
+in-range : (lo hi v : ℤ) → outside lo hi v ≡ false → (lo ≼ v) × (v ≼ hi)
+unfolding outside
+in-range lo hi v e = let o = none (ltZ v lo) (ltZ hi v ∷ []) e in omega (arith, order)
+
+in-size : (B : ℕ) (v : ℤ) → outside (negℤ (pos B)) (pos B) v ≡ false → natAbs v ≤ B
+in-size B v e = let h = in-range (negℤ (pos B)) (pos B) v e in size-by (h .0) (h .1)
+
+-- what the tests of command 30 leave
+record RightColumn (lo hi r h : ℤ) : Type 0 where
+  low : natAbs lo ≤ 20000
+  high : natAbs hi ≤ 20000
+  reference : natAbs r ≤ 20000
+  ordered : lo ≼ hi
+  weight : (pos 1 ≼ h) × (h ≼ pos 255)
+
+right-column : (lo hi r h : ℤ) → wrongColumn lo hi r h ≡ false → RightColumn lo hi r h
+unfolding wrongColumn
+right-column lo hi r h e =
+    let out = outside (negsuc 19999) (pos 20000) in
+    let o = none (out lo) (out hi ∷ out r ∷ ltZ hi lo ∷ outside (pos 1) (pos 255) h ∷ []) e in
+    record {
+      low = in-size 20000 lo (o .0);
+      high = in-size 20000 hi (o .1 .0);
+      reference = in-size 20000 r (o .1 .1 .0);
+      ordered = omega (arith, order);
+      weight = in-range (pos 1) (pos 255) h (o .1 .1 .1 .1 .0);
+    }
+
+-- a mark that is not the new one
+earlier : (g : List Bool) (k p : ℕ) → (p ≡ k → ⊥) → marked (set g k true) p ≡ true → marked g p ≡ true
+earlier g k p n e = sym (getD-set-other g k p true false n) ∙ e
+
+module _ {w : ℕ} {h : List ℤ} {gain : ℤ} {rounds : ℕ} {wanted : ℤ} {g : List Bool} (m : Marks w h gain rounds wanted g) where
+  marks-other : (k : ℕ) → ((p : ℕ) → p < w → 66 + p ≡ k → ⊥) × (82 ≡ k → ⊥) → Marks w h gain rounds wanted (set g k true)
+  marks-other k n = record {
+    weighed = λ p l e. m .weighed p l (earlier g k (66 + p) (n .0 p l) e);
+    timed = λ e. m .timed (earlier g k 82 (n .1) e);
+  }
+
+  marks-column : (c : ℕ) (x : ℤ) → c < 10 → c < length h → pos 1 ≼ x → Marks w (set h c x) gain rounds wanted (set g (66 + c) true)
+  marks-column c x n l y = record {
+    weighed = λ p b. at-stored (λ p z. marked (set g (66 + c) true) (66 + p) ≡ true → pos 1 ≼ z) h c p x l (λ _. y)
+        (λ d e. m .weighed p b (earlier g (66 + c) (66 + p) (λ q. d (omega arith)) e));
+    timed = λ e. m .timed (earlier g (66 + c) 82 (λ q. omega arith) e);
+  }
+
+  marks-rounds : {u v : ℤ} {r : ℕ} → w ≤ 10 → Timed u r v → Marks w h u r v (set g 82 true)
+  marks-rounds n f = record { weighed = λ p l e. m .weighed p l (earlier g 82 (66 + p) (λ q. omega arith) e); timed = λ _. f }
+
+columns-stored : {w : ℕ} {low high reference weight : List ℤ} (c : ℕ) {lo hi r h : ℤ} → c < w → w ≤ 10 → RightColumn lo hi r h →
+    Columns w low high reference weight → Columns w (set low c lo) (set high c hi) (set reference c r) (set weight c h)
+columns-stored {low = low} {high = high} c {lo} {hi} {r} {h} l n x k =
+    let room : (c < length low) × (c < length high) = omega arith in
+    record {
+      low = stored c lo (k .low) (omega arith) (x .low);
+      high = stored c hi (k .high) (omega arith) (x .high);
+      reference = stored c r (k .reference) (omega arith) (x .reference);
+      weight = stored c h (k .weight) (omega arith) (omega (arith, order, size-parts h));
+      ordered = λ p.
+          at-stored (λ q z. z ≼ at (set high c hi) q) low c p lo (room .0)
+          (rw (getD-set-same high c hi (pos 0) (room .1)) (x .ordered)) (λ d. rw (getD-set-other high c p hi (pos 0) d) (k .ordered p));
+    }
+
+entry-kept : {t : Tape} {g : List Bool} (e : Entry) → Ranged (command.Give e) → beyond (t .n) (t .m) e ≡ false → wrong e ≡ false →
+    Good t g → Good (with t e) (set g (placeOf e) true)
+unfolding beyond wrong
+entry-kept {t} (State i j v) _ u r (good z a b w x c k) =
+    let o = none (leb (t .n) i) (leb (t .n) j ∷ []) u in
+    let h : (i < t .n) × (j < t .n) = omega (arith, leb-false) in
+    let a′ = stored (6 * i + j) v a (omega arith, λ n. n i j h refl) (in-size 16384 v r) in
+    good z a′ b w x c (marks-other k (6 * i + j) (omega arith))
+entry-kept {t} (Input i j v) _ u r (good z a b w x c k) =
+    let o = none (leb (t .n) i) (leb (t .m) j ∷ []) u in
+    let h : (i < t .n) × (j < t .m) = omega (arith, leb-false) in
+    let b′ = stored (4 * i + j) v b (omega arith, λ n. n i j h refl) (in-size 16384 v r) in
+    good z a b′ w x c (marks-other k (36 + (4 * i + j)) (omega arith))
+entry-kept {t} (Drift i v) _ u r (good z a b w x c k) =
+    let h = leb-false (t .n) i u in
+    good z a b (stored i v w (omega arith) (in-size 16777216 v r)) x c (marks-other k (60 + i) (omega arith))
+entry-kept {t} (Column p lo hi f h) _ u r (good z a b w x c k) =
+    let l = leb-false (t .n + t .m) p u in
+    let y = right-column lo hi f h r in
+    good z a b w x (columns-stored p l (omega arith) y c) (marks-column k p h (omega arith) (omega arith) (y .weight .0))
+entry-kept {t} (Start i v) _ u r (good z a b w x c k) =
+    let h = leb-false (t .n) i u in
+    good z a b w (stored i v x (omega arith) (in-size 20000 v r)) c (marks-other k (76 + i) (omega arith))
+entry-kept (Rounds _ _ _) f _ r (good z a b w x c k) = good z a b w x c (marks-rounds k (omega arith) (timed f r))
+
+-- ---- Command 10: until it comes nothing is given
+
+abbrev Kept : Tape → List Bool → Type 0
+Kept t g = ((t ≡ blank) × (g ≡ replicate 83 false)) ⊎ Good t g
+
+size-kept : (n m horizon : ℕ) {t : Tape} {g : List Bool} → sized t ≡ false → wrongSize n m horizon ≡ false → Kept t g →
+    Good (withSize t n m horizon) g
+unfolding wrongSize
+size-kept n m horizon u w (inl k) =
+    let o = none (ltb n 1) (ltb 6 n ∷ ltb m 1 ∷ ltb 4 m ∷ ltb horizon 1 ∷ ltb 12 horizon ∷ []) w in
+    let l : n + m ≤ 10 = omega (arith, ltb-false) in
+    rw (k .0, k .1)
+    (good (omega (arith, ltb-false)) table-none table-none table-none table-none
+    (record { low = table-none; high = table-none; reference = table-none; weight = table-none; ordered = omega (arith, order) })
+    (record {
+      weighed = λ p h e. absurd (true≢false (sym e ∙ getD-replicate 83 (66 + p) false false (omega arith)));
+      timed = λ e. absurd (false≢true e);
+    }))
+size-kept n m horizon u w (inr (good z _ _ _ _ _ _)) = let e : ⊥ = omega (arith, ltb-false) in absurd e
+
+once-sized : {t : Tape} {g : List Bool} → not (sized t) ≡ false → Kept t g → Good t g
+once-sized u (inl k) = absurd (true≢false (rw (k .0) at u))
+once-sized u (inr k) = k
+
+-- ---- FF: every mark it asks for is there
+
+all-marked : (g : List Bool) (p count i : ℕ) → lacks g p count ≡ false → i < count → marked g (p + i) ≡ true
+unfolding lacks
+all-marked g p zero i e h = let z : ⊥ = omega arith in absurd z
+all-marked g p (suc count) i e h =
+    let o = none (lacks g p count) (not (marked g (p + count)) ∷ []) e in
+    ⊎-elim (λ l. all-marked g p count i (o .0) l) (λ l. let x : i ≡ count = omega arith in rw x (not-false (marked g (p + count)) (o .1 .0)))
+    (lt-or-le i count)
+
+ended-legal : {t : Tape} {g : List Bool} → absent (t .n) (t .m) g ≡ false → Good t g → Legal t
+unfolding absent
+ended-legal {t} {g} e (good z a b w x c k) =
+    let o = none (lacks g 66 (t .n + t .m)) (lacks g 76 (t .n) ∷ lacks g 82 1 ∷ []) e in
+    let f = k .timed (all-marked g 82 1 0 (o .1 .1 .0) (omega arith)) in
+    record {
+      states = z .states;
+      inputs = z .inputs;
+      steps = z .steps;
+      a = a .bounded;
+      b = b .bounded;
+      drift = w .bounded;
+      start = x .bounded;
+      low = c .low .bounded;
+      high = c .high .bounded;
+      reference = c .reference .bounded;
+      weight = c .weight .bounded;
+      ordered = c .ordered;
+      weighed = λ p l. k .weighed p l (all-marked g 66 (t .n + t .m) p (o .0) l);
+      gain = f .gain;
+      rounds = f .rounds;
+      wanted = f .wanted;
+      blankA = λ i j l s. a .blank (6 * i + j) (λ p q h y. ⊎-elim (λ d. omega arith) (λ d. omega arith) s);
+      blankB = λ i j l s. b .blank (4 * i + j) (λ p q h y. ⊎-elim (λ d. omega arith) (λ d. omega arith) s);
+      blankDrift = w .blank;
+      blankStart = x .blank;
+      blankLow = c .low .blank;
+      blankHigh = c .high .blank;
+      blankReference = c .reference .blank;
+      blankWeight = c .weight .blank;
+    }
+
+-- ---- Reading
+
+-- what holds where a command has led
+abbrev Holds : Verdict → Tape → List Bool → Type 0
+Holds Going t g = Kept t g
+Holds Ended t g = Legal t
+Holds (Refused why) t g = Unit {0}
+
+next-holds : (s : List ℕ) (q : Reader) → Bytes s → Kept (q .tape) (q .given) → let r = next s q in Holds (r .verdict) (r .tape) (r .given)
+next-holds s q b k =
+    next-leads (λ r. Holds (r .verdict) (r .tape) (r .given)) s q
+    (record {
+      refused = λ _. tt;
+      size = λ n m horizon u w. inr (size-kept n m horizon u w k);
+      entry = λ e d u x w. inr (entry-kept e (subst Ranged d (ranged s (q .at) b)) x w (once-sized u k));
+      ended = λ u a. ended-legal a (once-sized u k);
+    })
+
+pub legal : (s : List ℕ) → Bytes s → reading s .answer ≡ answer.Accepted → Legal (reading s .tape)
+unfolding reading readFrom
+legal s b = go (length s) opened (inl (refl, refl))
+  where
+    Claim : Reading → Type 0
+    Claim r = r .answer ≡ answer.Accepted → Legal (r .tape)
+
+    refused : (why : Refusal) → Claim (refusedTape why)
+    refused why e = let z : _≡_ {A = ℕ} 0 1 = cc in absurd (omega arith)
+
+    told : (v : Verdict) (t : Tape) (g : List Bool) (again : Reading) → Holds v t g → (Kept t g → Claim again) → Claim (outcome v t again)
+    told Going t g again h f = f h
+    told Ended t g again h f = λ _. h
+    told (Refused why) t g again h f = refused why
+
+    go : (left : ℕ) (q : Reader) → Kept (q .tape) (q .given) → Claim (readFrom s left q)
+    go zero q k = refused (Cut (length s))
+    go (suc left) q k = let r = next s q in told (r .verdict) (r .tape) (r .given) (readFrom s left r) (next-holds s q b k) (go left r)

@@ -1,0 +1,75 @@
+use Prim.Native.Nat.{_+_}
+use mathlib.Core.Path.{_≡_, sym, _∙_}
+use mathlib.Core.Bool.{true, false}
+use native.Mathlib.Omega.{arith}
+use lib.Dec.{ltb}
+use lib.ListN.{length}
+use borrow.Author.Tests.{lt-ltb, le-ltb}
+use borrow.Author.Needs.{needs}
+use Rattle.tape.specs.Reading.{obeyEnd, absent}
+use Rattle.tape.proofs.reader.obey_end.Statement.{statement}
+use Rattle.tape.proofs.reader.obey_end.Tie as tie
+
+-- the tests that have been passed
+sized : (c : tie.Else1) → ltb 0 (c .before .before .before .args .q .tape .n) ≡ true
+sized c = lt-ltb 0 (c .before .before .before .args .q .tape .n) (omega arith)
+
+complete : (c : tie.Else2) → let q = c .before .before .before .before .before .args .q in
+    absent (q .tape .n) (q .tape .m) (q .given) ≡ false
+complete c = sym (c .before .is-absent .ensures) ∙ c .if2 .left
+
+refused-requires : tie.Need-refused-requires
+refused-requires c κs = search needs
+
+returns : tie.Need-returns
+unfolding obeyEnd
+returns c = rw (le-ltb 0 (c .before .before .before .before .args .q .tape .n) (omega arith)) (c .refused .ensures)
+
+is-absent-requires : tie.Need-is-absent-requires
+is-absent-requires c κs = search needs
+
+refused-requires-2 : tie.Need-refused-requires-2
+refused-requires-2 c κs = search needs
+
+returns-2 : tie.Need-returns-2
+unfolding obeyEnd
+returns-2 c =
+    rw (sized (c .before .before .before), sym (c .before .before .is-absent .ensures) ∙ c .before .if2 .taken) (c .refused2 .ensures)
+
+add-if3 : tie.Need-add-if3
+add-if3 c = search needs
+
+add-t14 : tie.Need-add-t14
+add-t14 c = search needs
+
+refused-requires-3 : tie.Need-refused-requires-3
+refused-requires-3 c κs = search needs
+
+returns-3 : tie.Need-returns-3
+unfolding obeyEnd
+returns-3 c =
+    let passed = c .before .before in
+    let a = passed .before .before .before .before .before .args in
+    rw (sized (passed .before .before), complete passed, lt-ltb (a .q .at + 1) (length (a .s .now)) (omega arith)) (c .refused3 .ensures)
+
+returns-4 : tie.Need-returns-4
+unfolding obeyEnd
+returns-4 c =
+    let passed = c .before .before in
+    let a = passed .before .before .before .before .before .args in
+    rw (sized (passed .before .before), complete passed, le-ltb (a .q .at + 1) (length (a .s .now)) (omega arith))
+
+pub obey-end-spec : {M : Type 1} → statement M
+obey-end-spec =
+    tie.close
+    (tie.spec
+    refused-requires
+    returns
+    is-absent-requires
+    refused-requires-2
+    returns-2
+    add-if3
+    add-t14
+    refused-requires-3
+    returns-3
+    returns-4)

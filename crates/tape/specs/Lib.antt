@@ -1,0 +1,7 @@
+-- The definitions that promises cite.
+pub mod Refusals
+pub mod Tape
+pub mod Format
+pub mod Reading
+pub mod Legal
+pub mod Room

@@ -1,0 +1,266 @@
+// Reading: commands from the front, each tested in document 01's order.
+ghost use Prim.Native.Nat.{_+_, _^_, _<_, _≤_};
+ghost use mathlib.Core.Path.{_≡_};
+ghost use mathlib.Core.Bool.{false};
+ghost use lib.ListN.{length};
+ghost use Rattle.tape.specs.Format.{bytesOf, beyond, with};
+ghost use Rattle.tape.specs.Reading.{refuse, obeySize, obeyEntry, lacks, absent, obeyEnd, obey, next, opened, reading};
+ghost use Rattle.tape.specs.Room.{Room};
+use crate::Answer;
+use crate::Reading;
+use crate::Tape;
+use crate::blank_tape;
+use crate::command::Command;
+use crate::command::Entry;
+use crate::command::bytes_of;
+use crate::command::decode;
+use crate::command::is_beyond;
+use crate::command::is_wrong;
+use crate::command::is_wrong_size;
+use crate::command::place_of;
+use crate::refusal::Refusal;
+
+pub enum Verdict {
+    Going,
+    Ended,
+    Refused(Refusal),
+}
+
+// The reading so far: the next command's offset, the numbers, and a mark for each place that has
+// been given.
+pub struct Reader {
+    pub at: usize,
+    pub verdict: Verdict,
+    pub tape: Tape,
+    pub given: [bool; 83],
+}
+
+fn refused(q: Reader, why: Refusal) -> Reader
+    ensures { λ r. ⌜ r ≡ refuse why q ⌝ }
+{
+    let tape = q.tape;
+    let given = q.given;
+    Reader {
+        at: q.at,
+        verdict: Verdict::Refused(why),
+        tape: tape,
+        given: given,
+    }
+}
+
+// The entry's numbers, stored.
+fn stored(tape: Tape, entry: Entry) -> Tape
+    requires { ⌜ (tape .n ≤ 6) × (tape .m ≤ 4) × (beyond (tape .n) (tape .m) entry ≡ false) ⌝ }
+    ensures { λ r. ⌜ r ≡ with tape entry ⌝ }
+{
+    let mut t = tape;
+    match entry {
+        Entry::State(i, j, v) => {
+            let p = 6 * i + j;
+            t.a[p] = v;
+            t
+        }
+        Entry::Input(i, j, v) => {
+            let p = 4 * i + j;
+            t.b[p] = v;
+            t
+        }
+        Entry::Drift(i, v) => {
+            t.drift[i] = v;
+            t
+        }
+        Entry::Column(c, low, high, reference, weight) => {
+            t.low[c] = low;
+            t.high[c] = high;
+            t.reference[c] = reference;
+            t.weight[c] = weight;
+            t
+        }
+        Entry::Start(i, v) => {
+            t.start[i] = v;
+            t
+        }
+        Entry::Rounds(gain, rounds, wanted) => {
+            t.gain = gain;
+            t.rounds = rounds;
+            t.wanted = wanted;
+            t
+        }
+    }
+}
+
+fn obey_size(n: usize, m: usize, horizon: usize, q: Reader) -> Reader
+    requires { ⌜ q .at + 4 < 2 ^ 64 ⌝ }
+    ensures { λ r. ⌜ r ≡ obeySize n m horizon q ⌝ }
+{
+    let at = q.at;
+    if 0 < q.tape.n {
+        return refused(q, Refusal::Misplaced(at));
+    }
+    if is_wrong_size(n, m, horizon) {
+        return refused(q, Refusal::OutOfRange(at));
+    }
+    let mut tape = q.tape;
+    tape.n = n;
+    tape.m = m;
+    tape.horizon = horizon;
+    let given = q.given;
+    Reader {
+        at: at + 4,
+        verdict: Verdict::Going,
+        tape: tape,
+        given: given,
+    }
+}
+
+fn obey_entry(entry: Entry, q: Reader) -> Reader
+    requires { ⌜ (q .tape .n ≤ 6) × (q .tape .m ≤ 4) × (q .at + bytesOf entry < 2 ^ 64) ⌝ }
+    ensures { λ r. ⌜ r ≡ obeyEntry entry q ⌝ }
+{
+    let at = q.at;
+    let n = q.tape.n;
+    let m = q.tape.m;
+    if n < 1 {
+        return refused(q, Refusal::Misplaced(at));
+    }
+    if is_beyond(entry, n, m) {
+        return refused(q, Refusal::NoSuchPlace(at));
+    }
+    if is_wrong(entry) {
+        return refused(q, Refusal::OutOfRange(at));
+    }
+    let place = place_of(entry, n, m);
+    let mut given = q.given;
+    if given[place] {
+        return refused(q, Refusal::Twice(at));
+    }
+    given[place] = true;
+    let tape = stored(q.tape, entry);
+    Reader {
+        at: at + bytes_of(entry),
+        verdict: Verdict::Going,
+        tape: tape,
+        given: given,
+    }
+}
+
+// Whether one of the count places from p on has no mark.
+fn is_lacking(given: [bool; 83], p: usize, count: usize) -> bool
+    requires { ⌜ p + count ≤ 83 ⌝ }
+    ensures { λ r. ⌜ r ≡ lacks given p count ⌝ }
+{
+    let mut i = 0;
+    while i < count {
+        let place = p + i;
+        if !given[place] {
+            return true;
+        }
+        i += 1;
+    }
+    false
+}
+
+fn is_absent(given: [bool; 83], n: usize, m: usize) -> bool
+    requires { ⌜ (n ≤ 6) × (m ≤ 4) ⌝ }
+    ensures { λ r. ⌜ r ≡ absent n m given ⌝ }
+{
+    is_lacking(given, 66, n + m) || is_lacking(given, 76, n) || is_lacking(given, 82, 1)
+}
+
+fn obey_end(s: &[u8], q: Reader) -> Reader
+    requires { ⌜ (q .tape .n ≤ 6) × (q .tape .m ≤ 4) × (q .at < length (now s)) ⌝ }
+    ensures { λ r. ⌜ r ≡ obeyEnd (now (s .entry)) q ⌝ }
+{
+    let at = q.at;
+    let n = q.tape.n;
+    let m = q.tape.m;
+    let given = q.given;
+    if n < 1 {
+        return refused(q, Refusal::Misplaced(at));
+    }
+    if is_absent(given, n, m) {
+        return refused(q, Refusal::Absent(at));
+    }
+    if at + 1 < s.len() {
+        return refused(q, Refusal::Overrun(at + 1));
+    }
+    let tape = q.tape;
+    Reader {
+        at: at,
+        verdict: Verdict::Ended,
+        tape: tape,
+        given: given,
+    }
+}
+
+fn obeyed(command: Command, s: &[u8], q: Reader) -> Reader
+    requires { ⌜ (q .tape .n ≤ 6) × (q .tape .m ≤ 4) × Room (q .at) (length (now s)) command ⌝ }
+    ensures { λ r. ⌜ r ≡ obey command (now (s .entry)) q ⌝ }
+{
+    let at = q.at;
+    match command {
+        Command::Unknown => refused(q, Refusal::Unknown(at)),
+        Command::Cut => refused(q, Refusal::Cut(at)),
+        Command::Size(n, m, horizon) => obey_size(n, m, horizon, q),
+        Command::Give(entry) => obey_entry(entry, q),
+        Command::End => obey_end(s, q),
+    }
+}
+
+fn step(s: &[u8], q: Reader) -> Reader
+    requires { ⌜ (q .tape .n ≤ 6) × (q .tape .m ≤ 4) ⌝ }
+    ensures { λ r. ⌜ r ≡ next (now (s .entry)) q ⌝ }
+{
+    let at = q.at;
+    if at < s.len() {
+        let command = decode(s, at);
+        return obeyed(command, s, q);
+    }
+    refused(q, Refusal::Cut(s.len()))
+}
+
+fn open() -> Reader
+    ensures { λ r. ⌜ r ≡ opened ⌝ }
+{
+    let tape = blank_tape();
+    let given = [false; 83];
+    Reader {
+        at: 0,
+        verdict: Verdict::Going,
+        tape: tape,
+        given: given,
+    }
+}
+
+// Reads a tape. No tape has more commands than bytes.
+pub fn read(tape: &[u8]) -> Reading
+    ensures { λ r. ⌜ r ≡ reading (now (tape .entry)) ⌝ }
+{
+    let mut q = open();
+    let mut left = tape.len();
+    while 0 < left {
+        q = step(tape, q);
+        let verdict = q.verdict;
+        match verdict {
+            Verdict::Going => {}
+            Verdict::Ended => {
+                let numbers = q.tape;
+                return Reading {
+                    answer: Answer::Accepted,
+                    tape: numbers,
+                };
+            }
+            Verdict::Refused(why) => {
+                return Reading {
+                    answer: Answer::Refused(why),
+                    tape: blank_tape(),
+                };
+            }
+        }
+        left -= 1;
+    }
+    Reading {
+        answer: Answer::Refused(Refusal::Cut(tape.len())),
+        tape: blank_tape(),
+    }
+}

@@ -1,10 +1,10 @@
 -- Sizes |z|, that is `natAbs z`, and whether a number fits a signed width. By sizes, `fits-by _ (size-add .. (size-mul ..)) (omega arith)`
 -- shows that a sum of products fits, the bounds adding and multiplying as numerals; by bounds, `omega (arith, fitting, plus a b)`.
 use Prim.Native.Nat.{ℕ, zero, suc, _+_, _*_, _-_, _^_, _<_, _≤_, max}
-use mathlib.Core.Path.{_≡_, refl, ap}
+use mathlib.Core.Path.{_≡_, refl, ap, _∙_}
 use mathlib.Core.List.{List}
 use native.Mathlib.Omega.{arith}
-use native.Mathlib.Nat.{mul-le-mul}
+use native.Mathlib.Nat.{le-trans, mul-le-mul}
 use lib.IntN.{ℤ, pos, negsuc, negℤ, natAbs, _+ℤ_, _-ℤ_, _*ℤ_}
 use lib.Dec.{T}
 use lib.Signed.{mag, nonNeg, yes-nonNeg}
@@ -65,6 +65,9 @@ fits-by {w} z {B} h k = record { sfits = go z h }
 pub bounded-fits : {w : Width} {B : ℕ} {l : List ℤ} → Bounded B l → B < 2 ^ hbits w → (p : ℕ) → SFits w (at l p)
 bounded-fits {l = l} b k p = fits-by (at l p) (b .each p) k
 
+pub wider : {A B : ℕ} {l : List ℤ} → Bounded A l → A ≤ B → Bounded B l
+wider b h = record { each = λ p. le-trans (b .each p) h }
+
 fits-parts : {w : Width} {z : ℤ} → SFits w z → (up z < 2 ^ hbits w) × (dn z ≤ 2 ^ hbits w)
 fits-parts {w} {z} f = go z (f .sfits)
   where
@@ -99,3 +102,21 @@ fit f = let h = fits-parts f in (h .0, h .1, ap up (toZ-ofZ f), ap dn (toZ-ofZ f
 -- the result of a call, `called (c .f .result) (c .f .ok)`, and an element that was copied out, `called (at l i) (c .x .given)`
 pub called : (z : ℤ) → mag z < 2 ^ 63 → toZ w64 (ofZ w64 z) ≡ z
 called z h = toZ-ofZ {w = w64} {z = z} (record { sfits = h })
+
+-- an i64 as it is read back
+abbrev pub back : ℤ → ℤ
+back z = toZ w64 (ofZ w64 z)
+
+pub back-is : (z : ℤ) {B : ℕ} → natAbs z ≤ B → B < 2 ^ 63 → back z ≡ z
+back-is z h k = toZ-ofZ (fits-by z h k)
+
+pub element-is : {B : ℕ} {l : List ℤ} → Bounded B l → B < 2 ^ 63 → (p : ℕ) → back (at l p) ≡ at l p
+element-is {l = l} b h p = back-is (at l p) (b .each p) h
+
+-- what the code forms, z, fits and is the number w: `.fits` answers an overflow, `.is` reads the step back
+pub record Formed (z w : ℤ) : Type 0 where
+  pub fits : SFits w64 z
+  pub is : back z ≡ w
+
+pub formed : {z w : ℤ} {B : ℕ} → z ≡ w → natAbs w ≤ B → B < 2 ^ 63 → Formed z w
+formed {z} {w} e h k = let f : SFits w64 z = rw e (fits-by w h k) in record { fits = f; is = toZ-ofZ f ∙ e }

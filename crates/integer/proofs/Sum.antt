@@ -1,5 +1,5 @@
 -- Finite sums.
-use Prim.Native.Nat.{ℕ, zero, suc, _+_, _*_, _-_, _<_, _≤_}
+use Prim.Native.Nat.{ℕ, zero, suc, _+_, _*_, _-_, _^_, _<_, _≤_}
 use mathlib.Core.Path.{_≡_, refl, sym, _∙_, ap, ap₂}
 use native.Mathlib.Numerals.{add-one}
 use native.Mathlib.Omega.{arith}
@@ -8,7 +8,7 @@ use Rattle.integer.specs.Order.{_≼_}
 use Rattle.integer.specs.Sum.{sum}
 use Rattle.integer.proofs.Ring.{ring, mul-add, _⊕_, _⊖_, _⊗_, _≐_}
 use Rattle.integer.proofs.Order.{order, add-le}
-use Rattle.integer.proofs.Sizes.{size-add}
+use Rattle.integer.proofs.Sizes.{size-add, Formed, formed}
 
 pub sum-none : (f : ℕ → ℤ) → sum 0 f ≡ pos 0
 unfolding sum
@@ -105,3 +105,8 @@ pub size-sum : (n B : ℕ) (f : ℕ → ℤ) → ((j : ℕ) → j < n → natAbs
 unfolding sum
 size-sum zero B f h = omega arith
 size-sum (suc n) B f h = omega (arith, size-add (sum n f) (f n) (size-sum n B f (λ j p. h j (omega arith))) (h n (omega arith)))
+
+-- a loop's total a, with the next term b
+pub added : (n : ℕ) (f : ℕ → ℤ) {B : ℕ} {a b : ℤ} → ((j : ℕ) → j < n + 1 → natAbs (f j) ≤ B) → (n + 1) * B < 2 ^ 63 → a ≡ sum n f → b ≡ f n →
+    Formed (a +ℤ b) (sum (n + 1) f)
+added n f {B} h k d e = formed (rw (d, e, sum-last n f)) (size-sum (n + 1) B f h) k

@@ -1,0 +1,4 @@
+-- Laws of the padded problem, and how large its numbers are.
+pub mod Places
+pub mod LinearSizes
+pub mod TermSizes

@@ -1,0 +1,160 @@
+-- How large the sums of products are that slopes, residuals and the floor's constant are made of.
+use Prim.Native.Nat.{ℕ, zero, suc, _+_, _*_, _-_, _≤_}
+use mathlib.Core.Path.{_≡_, ap}
+use mathlib.Core.Bool.{Bool, true, false, cond}
+use mathlib.Core.List.{List, []}
+use native.Mathlib.Omega.{arith}
+use native.Mathlib.Nat.{le-refl, le-trans}
+use lib.Dec.{ltb}
+use lib.IntN.{ℤ, pos, negsuc, natAbs, _+ℤ_, _-ℤ_, _*ℤ_}
+use Rattle.integer.specs.Places.{at, Bounded, Steps}
+use Rattle.integer.specs.Sum.{sum}
+use Rattle.integer.proofs.Sizes.{size-add, size-sub, size-mul}
+use Rattle.integer.proofs.Sum.{sum-cong, size-sum}
+use Rattle.integer.proofs.Places.{steps-bounded}
+use Rattle.problem.specs.Model.{stateAt, modelSum}
+use Rattle.problem.specs.Dual.{inputSlope, carried, stateSlope, constant, sizes}
+use Rattle.evaluate.specs.Padded.{stateMatrix, inputMatrix, padded, paddedPlan, byPlace, paddedProblem}
+
+-- ---- Sums of products
+
+-- the same places, counted otherwise
+pub sum-places : (n : ℕ) (f : ℕ → ℤ) (l : List ℤ) (g h : ℕ → ℕ) → ((q : ℕ) → g q ≡ h q) →
+    sum n (λ q. f q *ℤ at l (g q)) ≡ sum n (λ q. f q *ℤ at l (h q))
+sum-places n f l g h e = sum-cong n _ _ (λ q _. ap (λ (p : ℕ). f q *ℤ at l p) (e q))
+
+pub size-product-at : {A B : ℕ} {x y : List ℤ} → Bounded A x → Bounded B y → (p q : ℕ) → natAbs (at x p *ℤ at y q) ≤ A * B
+size-product-at {x = x} {y = y} hx hy p q = size-mul (at x p) (at y q) (hx .each p) (hy .each q)
+
+pub size-products : {A B : ℕ} {x y : List ℤ} → Bounded A x → Bounded B y → (n : ℕ) (f g : ℕ → ℕ) →
+    natAbs (sum n (λ q. at x (f q) *ℤ at y (g q))) ≤ n * (A * B)
+size-products {A} {B} hx hy n f g = size-sum n (A * B) _ (λ q _. size-product-at hx hy (f q) (g q))
+
+-- ---- Slopes
+
+pub size-inputSlope : {b y : List ℤ} → Bounded 16384 b → Bounded 16777216 y → (k j : ℕ) →
+    natAbs (inputSlope 6 (inputMatrix b) (padded y) k j) ≤ 1649267441664
+unfolding inputSlope
+size-inputSlope hb hy k j = size-products hy hb 6 (λ i. 6 * k + i) (λ i. 4 * i + j)
+
+pub size-carried : {a y : List ℤ} → Bounded 16384 a → Bounded 16777216 y → (horizon k i : ℕ) →
+    natAbs (carried 6 horizon (stateMatrix a) (padded y) k i) ≤ 1649267441664
+unfolding carried
+size-carried {a} {y} ha hy horizon k i = go (ltb (k + 1) horizon)
+  where
+    go : (t : Bool) → natAbs (cond t (sum 6 (λ q. padded y (k + 1) q *ℤ stateMatrix a q i)) (pos 0)) ≤ 1649267441664
+    go true = size-products hy ha 6 (λ q. 6 * (k + 1) + q) (λ q. 6 * q + i)
+    go false = omega arith
+
+pub size-scaled : {y : List ℤ} → Bounded 16777216 y → (p : ℕ) → natAbs (negsuc 4095 *ℤ at y p) ≤ 68719476736
+size-scaled {y} hy p = size-mul (negsuc 4095) (at y p) (le-refl 4096) (hy .each p)
+
+pub size-stateSlope : {a y : List ℤ} → Bounded 16384 a → Bounded 16777216 y → (horizon k i : ℕ) →
+    natAbs (stateSlope 6 horizon (stateMatrix a) (padded y) k i) ≤ 1717986918400
+unfolding stateSlope
+size-stateSlope {a} {y} ha hy horizon k i =
+    size-add (negsuc 4095 *ℤ padded y k i) (carried 6 horizon (stateMatrix a) (padded y) k i)
+    (size-scaled hy (6 * k + i)) (size-carried ha hy horizon k i)
+
+size-byPlace : {B : ℕ} (f g : ℕ → ℕ → ℤ) → ((k j : ℕ) → natAbs (f k j) ≤ B) → ((k i : ℕ) → natAbs (g k i) ≤ B) →
+    (k c : ℕ) → natAbs (byPlace f g k c) ≤ B
+unfolding byPlace
+size-byPlace {B} f g hf hg k c = go (ltb c 4)
+  where
+    go : (t : Bool) → natAbs (cond t (f k c) (g k (c - 4))) ≤ B
+    go true = hf k c
+    go false = hg k (c - 4)
+
+-- what `slopes` gives, by step and place
+abbrev pub slopeAt : List ℤ → List ℤ → List ℤ → ℕ → ℕ → ℕ → ℤ
+slopeAt a b y horizon = byPlace (inputSlope 6 (inputMatrix b) (padded y)) (stateSlope 6 horizon (stateMatrix a) (padded y))
+
+pub slopes-bounded : {a b y s : List ℤ} (horizon : ℕ) → Bounded 16384 a → Bounded 16384 b → Bounded 16777216 y →
+    Steps 10 horizon (slopeAt a b y horizon) s → Bounded 1717986918400 s
+slopes-bounded horizon ha hb hy steps =
+    steps-bounded 10 horizon _ _ (omega arith) steps
+    (λ k c _ _. size-byPlace _ _ (λ k j. le-trans (size-inputSlope hb hy k j) (omega arith)) (size-stateSlope ha hy horizon) k c)
+
+-- ---- The model
+
+size-stateAt : {start v : List ℤ} → Bounded 20000 start → Bounded 20000 v → (k j : ℕ) → natAbs (stateAt (at start) (paddedPlan v .x) k j) ≤ 20000
+unfolding stateAt
+size-stateAt hs hv zero j = hs .each j
+size-stateAt hs hv (suc k) j = hv .each (10 * k + (4 + j))
+
+-- what the states and the inputs add to S of x(k+1,i); S; the residual
+abbrev pub fromStates : List ℤ → List ℤ → List ℤ → ℕ → ℕ → ℤ
+fromStates a start v k i = sum 6 (λ j. stateMatrix a i j *ℤ stateAt (at start) (paddedPlan v .x) k j)
+
+abbrev pub fromInputs : List ℤ → List ℤ → ℕ → ℕ → ℤ
+fromInputs b v k i = sum 4 (λ j. inputMatrix b i j *ℤ paddedPlan v .u k j)
+
+abbrev pub modelAt : List ℤ → List ℤ → List ℤ → List ℤ → List ℤ → ℕ → ℕ → ℤ
+modelAt a b drift start v k i =
+    modelSum 6 4 (stateMatrix a) (inputMatrix b) (at drift) (stateAt (at start) (paddedPlan v .x) k) (paddedPlan v .u k) i
+
+abbrev pub residualAt : List ℤ → List ℤ → List ℤ → List ℤ → List ℤ → ℕ → ℕ → ℤ
+residualAt a b drift start v k i = modelAt a b drift start v k i -ℤ pos 4096 *ℤ paddedPlan v .x k i
+
+pub size-next : {v : List ℤ} → Bounded 20000 v → (p : ℕ) → natAbs (pos 4096 *ℤ at v p) ≤ 81920000
+size-next {v} hv p = size-mul (pos 4096) (at v p) (le-refl 4096) (hv .each p)
+
+module _ {a b drift start v : List ℤ} (ha : Bounded 16384 a) (hb : Bounded 16384 b) (hw : Bounded 16777216 drift)
+    (hs : Bounded 20000 start) (hv : Bounded 20000 v) (k i : ℕ) where
+  pub size-both : natAbs (fromStates a start v k i +ℤ fromInputs b v k i) ≤ 3276800000
+  size-both =
+      size-add (fromStates a start v k i) (fromInputs b v k i)
+      (size-sum 6 327680000 _
+      (λ j _. size-mul (stateMatrix a i j) (stateAt (at start) (paddedPlan v .x) k j) (ha .each (6 * i + j)) (size-stateAt hs hv k j)))
+      (size-products hb hv 4 (λ j. 4 * i + j) (λ j. 10 * k + j))
+
+  pub size-model : natAbs (modelAt a b drift start v k i) ≤ 3293577216
+  unfolding modelSum
+  size-model = size-add (fromStates a start v k i +ℤ fromInputs b v k i) (at drift i) size-both (hw .each i)
+
+  pub size-residual : natAbs (residualAt a b drift start v k i) ≤ 3375497216
+  size-residual = size-sub (modelAt a b drift start v k i) (pos 4096 *ℤ paddedPlan v .x k i) size-model (size-next hv (10 * k + (4 + i)))
+
+-- what `residuals` gives
+pub residuals-bounded : {a b drift start v e : List ℤ} (horizon : ℕ) → Bounded 16384 a → Bounded 16384 b → Bounded 16777216 drift →
+    Bounded 20000 start → Bounded 20000 v → Steps 6 horizon (residualAt a b drift start v) e → Bounded 3375497216 e
+residuals-bounded horizon ha hb hw hs hv steps =
+    steps-bounded 6 horizon _ _ (omega arith) steps (λ k i _ _. size-residual ha hb hw hs hv k i)
+
+-- ---- The constant
+
+-- what step k's drifts add, and what state i of the start adds
+abbrev pub driftAt : List ℤ → List ℤ → ℕ → ℤ
+driftAt drift y k = sum 6 (λ i. padded y k i *ℤ at drift i)
+
+abbrev pub startedAt : List ℤ → List ℤ → List ℤ → ℕ → ℤ
+startedAt a start y i = sum 6 (λ j. padded y 0 i *ℤ stateMatrix a i j *ℤ at start j)
+
+pub size-drifts : {drift y : List ℤ} → Bounded 16777216 drift → Bounded 16777216 y → (n : ℕ) →
+    natAbs (sum n (driftAt drift y)) ≤ n * 1688849860263936
+size-drifts hw hy n = size-sum n 1688849860263936 _ (λ k _. size-products hy hw 6 (λ i. 6 * k + i) (λ i. i))
+
+module _ {a start y : List ℤ} (ha : Bounded 16384 a) (hs : Bounded 20000 start) (hy : Bounded 16777216 y) where
+  pub size-startedAt : (i : ℕ) → natAbs (startedAt a start y i) ≤ 32985348833280000
+  size-startedAt i =
+      size-sum 6 5497558138880000 _
+      (λ j _. size-mul (padded y 0 i *ℤ stateMatrix a i j) (at start j) (size-product-at hy ha (6 * 0 + i) (6 * i + j)) (hs .each j))
+
+  pub size-started : (n : ℕ) → natAbs (sum n (startedAt a start y)) ≤ n * 32985348833280000
+  size-started n = size-sum n 32985348833280000 _ (λ i _. size-startedAt i)
+
+pub size-constant : {a drift start y : List ℤ} (N : ℕ) → N ≤ 12 → Bounded 16384 a → Bounded 16777216 drift → Bounded 20000 start → Bounded 16777216 y →
+    natAbs (constant (paddedProblem N a [] drift start [] [] [] []) (padded y)) ≤ 218178291322847232
+unfolding constant
+size-constant {a} {drift} {start} {y} N l ha hw hs hy =
+    le-trans (size-add (sum N (driftAt drift y)) (sum 6 (startedAt a start y)) (size-drifts hw hy N) (size-started ha hs hy 6)) (omega arith)
+
+pub size-sizes : {y : List ℤ} (N : ℕ) → N ≤ 12 → Bounded 16777216 y → natAbs (sizes 6 N (padded y)) ≤ 1207959552
+unfolding sizes
+size-sizes {y} N l hy = le-trans (size-sum N 100663296 _ (λ k _. size-sum 6 16777216 _ (λ i _. hy .each (6 * k + i)))) (omega arith)
+
+pub size-offset : {a drift start y : List ℤ} (N : ℕ) → N ≤ 12 → Bounded 16384 a → Bounded 16777216 drift → Bounded 20000 start → Bounded 16777216 y →
+    natAbs (constant (paddedProblem N a [] drift start [] [] [] []) (padded y) -ℤ pos 2048 *ℤ sizes 6 N (padded y)) ≤ 218180765224009728
+size-offset {a} {drift} {start} {y} N l ha hw hs hy =
+    size-sub (constant (paddedProblem N a [] drift start [] [] [] []) (padded y)) (pos 2048 *ℤ sizes 6 N (padded y)) (size-constant N l ha hw hs hy)
+    (size-mul (pos 2048) (sizes 6 N (padded y)) (le-refl 2048) (size-sizes N l hy))

@@ -1,0 +1,60 @@
+-- The figures of document 01 that speak of the problem: one table of what the definitions give and what the document says, and
+-- one fact over it.
+use Prim.Native.Nat.{ℕ}
+use mathlib.Core.Path.{_≡_, refl}
+use mathlib.Core.Bool.{cond}
+use mathlib.Core.List.{List, [], _∷_, _++_, map}
+use lib.IntN.{ℤ, pos, negsuc}
+use Rattle.integer.specs.Operand.{unsigned, signed}
+use Rattle.integer.specs.Quotient.{_÷_}
+use Rattle.integer.specs.Sum.{sum}
+use Rattle.tape.specs.declared.Tape.{Tape}
+use Rattle.tape.specs.Format.{sizeCommand, stateCommand, inputCommand, driftCommand, columnCommand, startCommand, roundsCommand, decoded, wrongSize, beyond, outside, wrongColumn, wrong}
+use Rattle.tape.specs.Reading.{obeySize, obeyEntry, lacks, absent, obeyEnd, obey, next, readFrom, reading}
+use Rattle.problem.specs.Model.{problemOf, planOf, stateAt, modelSum, rounded, sumAt}
+use Rattle.problem.specs.Cost.{total, cost, planCost, costOf}
+use Rattle.problem.specs.Dual.{inputSlope, carried, stateSlope, conjugate, tilt, piece, pieces, constant, sizes, floor, floorOf, gapOf, larger, most, ceiling, shows}
+
+-- tape F, with the state's limits and reference as given
+abbrev bytes : List ℕ → List ℕ
+bytes state =
+    0x10 ∷ 0x01 ∷ 0x01 ∷ 0x01 ∷ 0x20 ∷ 0x00 ∷ 0x00 ∷ 0x00 ∷ 0x10 ∷ 0x21 ∷ 0x00 ∷ 0x00 ∷ 0x00 ∷ 0x08
+    ∷ 0x30 ∷ 0x00 ∷ state
+    ++ 0x01 ∷ 0x30 ∷ 0x01 ∷ 0x00 ∷ 0x00 ∷ 0x28 ∷ 0x00 ∷ 0x00 ∷ 0x00 ∷ 0x01 ∷ 0x40 ∷ 0x00 ∷ 0x64 ∷ 0x00
+    ∷ 0x50 ∷ 0x19 ∷ 0x00 ∷ 0x05 ∷ 0x00 ∷ 0x40 ∷ 0x9C ∷ 0x00 ∷ 0x00 ∷ 0xFF ∷ []
+
+abbrev F : Tape
+F = reading (bytes (0x18 ∷ 0xFC ∷ 0xE8 ∷ 0x03 ∷ 0x6E ∷ 0x00 ∷ [])) .tape
+
+-- state limits 200 to 300, r 250
+abbrev G : Tape
+G = reading (bytes (0xC8 ∷ 0x00 ∷ 0x2C ∷ 0x01 ∷ 0xFA ∷ 0x00 ∷ [])) .tape
+
+-- the state that the model gives after the inputs u of tape F's one step
+abbrev after : ℤ → ℤ
+after u = rounded (sumAt (problemOf F) (planOf 1 1 (u ∷ [])) 0 0)
+
+abbrev table : List (ℤ × ℤ)
+table =
+    -- M1
+    (after (pos 1), pos 101) ∷ (after (pos 2), pos 101) ∷ (after (pos 3), pos 102)
+    -- M2
+    ∷ (rounded (negsuc 2047), pos 0) ∷ (rounded (negsuc 2048), negsuc 0)
+    -- M3
+    ∷ (floorOf F (negsuc 15 ∷ []), pos 294912)
+    -- M4
+    ∷ (costOf F (pos 4 ∷ pos 102 ∷ []), pos 327680) ∷ (gapOf F (pos 4 ∷ pos 102 ∷ []) (negsuc 15 ∷ []), pos 32768)
+    -- M5
+    ∷ (costOf F (pos 3 ∷ pos 102 ∷ []), pos 299008) ∷ (gapOf F (pos 3 ∷ pos 102 ∷ []) (negsuc 15 ∷ []), pos 4096)
+    -- M6, and beside it a floor below 0, which stays below 0
+    ∷ (floorOf F (pos 0 ∷ []), pos 0) ∷ (floorOf F (pos 16 ∷ []), negsuc 950271)
+    -- M9
+    ∷ (floorOf G (negsuc 99 ∷ []), pos 48435200) ∷ (ceiling (problemOf G), pos 16793600)
+    ∷ (cond (shows (problemOf G) (λ k i. negsuc 99)) (pos 1) (pos 0), pos 1)
+    -- M10
+    ∷ (piece (problemOf G .stateTerm 0 0) (pos 409600), pos 92160000) ∷ (piece (problemOf G .stateTerm 0 0) (pos 409599), pos 92159800)
+    ∷ []
+
+pub figures : map (λ f. f .0) table ≡ map (λ f. f .1) table
+unfolding unsigned signed _÷_ sum sizeCommand stateCommand inputCommand driftCommand columnCommand startCommand roundsCommand decoded wrongSize beyond outside wrongColumn wrong obeySize obeyEntry lacks absent obeyEnd obey next readFrom reading stateAt modelSum rounded total cost planCost inputSlope carried stateSlope conjugate tilt piece pieces constant sizes floor larger most ceiling
+figures = refl

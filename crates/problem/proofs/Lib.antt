@@ -1,0 +1,7 @@
+-- The theorem of demand 3 is in `Duality`; the files before it hold its parts.
+pub mod Total
+pub mod Lagrangian
+pub mod Piece
+pub mod Ceiling
+pub mod Duality
+pub mod Figures

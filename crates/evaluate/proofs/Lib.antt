@@ -1,4 +1,6 @@
 -- Laws of the padded problem, and how large its numbers are.
 pub mod Places
+pub mod Padding
 pub mod LinearSizes
 pub mod TermSizes
+pub mod TermTables

@@ -96,8 +96,8 @@ modelAt a b drift start v k i =
 abbrev pub residualAt : List ℤ → List ℤ → List ℤ → List ℤ → List ℤ → ℕ → ℕ → ℤ
 residualAt a b drift start v k i = modelAt a b drift start v k i -ℤ pos 4096 *ℤ paddedPlan v .x k i
 
-pub size-next : {v : List ℤ} → Bounded 20000 v → (p : ℕ) → natAbs (pos 4096 *ℤ at v p) ≤ 81920000
-size-next {v} hv p = size-mul (pos 4096) (at v p) (le-refl 4096) (hv .each p)
+pub size-units : {B : ℕ} {l : List ℤ} → Bounded B l → (p : ℕ) → natAbs (pos 4096 *ℤ at l p) ≤ 4096 * B
+size-units {l = l} b p = size-mul (pos 4096) (at l p) (le-refl 4096) (b .each p)
 
 module _ {a b drift start v : List ℤ} (ha : Bounded 16384 a) (hb : Bounded 16384 b) (hw : Bounded 16777216 drift)
     (hs : Bounded 20000 start) (hv : Bounded 20000 v) (k i : ℕ) where
@@ -113,7 +113,7 @@ module _ {a b drift start v : List ℤ} (ha : Bounded 16384 a) (hb : Bounded 163
   size-model = size-add (fromStates a start v k i +ℤ fromInputs b v k i) (at drift i) size-both (hw .each i)
 
   pub size-residual : natAbs (residualAt a b drift start v k i) ≤ 3375497216
-  size-residual = size-sub (modelAt a b drift start v k i) (pos 4096 *ℤ paddedPlan v .x k i) size-model (size-next hv (10 * k + (4 + i)))
+  size-residual = size-sub (modelAt a b drift start v k i) (pos 4096 *ℤ paddedPlan v .x k i) size-model (size-units hv (10 * k + (4 + i)))
 
 -- what `residuals` gives
 pub residuals-bounded : {a b drift start v e : List ℤ} (horizon : ℕ) → Bounded 16384 a → Bounded 16384 b → Bounded 16777216 drift →

@@ -1,3 +1,4 @@
 -- The definitions that contracts cite.
 pub mod Padded
 pub mod Ranges
+pub mod Terms

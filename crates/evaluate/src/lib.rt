@@ -4,3 +4,4 @@ pub mod cost;
 mod dot;
 pub mod dual;
 pub mod model;
+pub mod terms;

@@ -77,14 +77,22 @@ stretch-join o w v f g h old mid new s t first then =
     out-p p (inl k) = t .outside p (inl (omega arith)) ∙ s .outside p (inl k)
     out-p p (inr k) = t .outside p (inr (omega arith)) ∙ s .outside p (inr (omega arith))
 
+-- from place 0 on
+module _ {w : ℕ} {f : ℕ → ℤ} {old new : List ℤ} (s : Stretch 0 w f old new) where
+  pub fill-store : {v : ℤ} → w < length old → v ≡ f w → Stretch 0 (w + 1) f old (set new w v)
+  fill-store {v} h e =
+      let z : 0 + w ≡ w = omega arith in
+      subst (λ (p : ℕ). Stretch 0 (w + 1) f old (set new p v)) z (stretch-store 0 w f old new v (omega arith) s e)
+
+  pub fill-at : (p : ℕ) → p < w → at new p ≡ f p
+  fill-at p h = let z : p ≡ 0 + p = omega arith in ap (at new) z ∙ s .inside p h
+
 -- a stretch over every place is the whole list
 pub stretch-whole : (f : ℕ → ℤ) (old new list : List ℤ) → Stretch 0 (length old) f old new → length list ≡ length old →
     ((j : ℕ) → j < length old → f j ≡ at list j) → new ≡ list
 stretch-whole f old new list s n h =
     ext-getD (pos 0) new list (s .same ∙ sym n)
-    (λ j l. let k : j < length old = omega (arith, s .same) in
-    let z : j ≡ 0 + j = omega arith in
-    ap (at new) z ∙ s .inside j k ∙ h j k)
+    (λ j l. let k : j < length old = omega (arith, s .same) in fill-at s j k ∙ h j k)
 
 -- ---- Steps of d places
 

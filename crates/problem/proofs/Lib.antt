@@ -4,4 +4,5 @@ pub mod Lagrangian
 pub mod Piece
 pub mod Ceiling
 pub mod Duality
+pub mod Congruence
 pub mod Figures

@@ -3,19 +3,38 @@ use Prim.Native.Nat.{ℕ}
 use Prim.Native.String.{String}
 use Rattle.tape.specs.declared.refusal.Refusal.{Refusal}
 use Rattle.tape.specs.declared.refusal.Refusal.the-variants.{Cut, Unknown, Misplaced, NoSuchPlace, OutOfRange, Twice, Absent, Overrun}
+use Rattle.tape.specs.declared.refusal.Refusal.the-variants.{Length, OffModel, OverLimit, Multiplier, Wide, NotShown}
 
--- A tape's refusal carries an offset.
+-- A tape's refusal carries an offset; 9 to 14 carry nothing.
+pub data Carried : Type 0 where
+  offset : ℕ → Carried
+  nothing : Carried
+
+-- as one number
+abbrev pub figure : Carried → ℕ
+figure (offset at) = at
+figure nothing = 0
+
 pub record Row : Type 0 where
   pub number : ℕ
   pub word : String
-  pub carried : ℕ
+  pub carries : Carried
+
+abbrev pub rowOf : ℕ → String → Carried → Row
+rowOf number word carries = record { number = number; word = word; carries = carries }
 
 abbrev pub row : Refusal → Row
-row (Cut at) = record { number = 1; word = "cut"; carried = at }
-row (Unknown at) = record { number = 2; word = "unknown"; carried = at }
-row (Misplaced at) = record { number = 3; word = "misplaced"; carried = at }
-row (NoSuchPlace at) = record { number = 4; word = "no such place"; carried = at }
-row (OutOfRange at) = record { number = 5; word = "out of range"; carried = at }
-row (Twice at) = record { number = 6; word = "twice"; carried = at }
-row (Absent at) = record { number = 7; word = "absent"; carried = at }
-row (Overrun at) = record { number = 8; word = "overrun"; carried = at }
+row (Cut at) = rowOf 1 "cut" (offset at)
+row (Unknown at) = rowOf 2 "unknown" (offset at)
+row (Misplaced at) = rowOf 3 "misplaced" (offset at)
+row (NoSuchPlace at) = rowOf 4 "no such place" (offset at)
+row (OutOfRange at) = rowOf 5 "out of range" (offset at)
+row (Twice at) = rowOf 6 "twice" (offset at)
+row (Absent at) = rowOf 7 "absent" (offset at)
+row (Overrun at) = rowOf 8 "overrun" (offset at)
+row Length = rowOf 9 "length" nothing
+row OffModel = rowOf 10 "off model" nothing
+row OverLimit = rowOf 11 "over limit" nothing
+row Multiplier = rowOf 12 "multiplier" nothing
+row Wide = rowOf 13 "wide" nothing
+row NotShown = rowOf 14 "not shown" nothing

@@ -128,7 +128,7 @@ fn rounds(s: &[u8], at: usize) -> Command
 }
 
 // Whether v lies outside lo to hi.
-fn is_outside(v: i64, lo: i64, hi: i64) -> bool
+pub fn is_outside(v: i64, lo: i64, hi: i64) -> bool
     ensures { λ r. ⌜ r ≡ outside lo hi v ⌝ }
 {
     if v < lo {

@@ -3,6 +3,7 @@ mod command;
 mod reader;
 pub mod refusal;
 
+pub use command::is_outside;
 pub use reader::read;
 ghost use mathlib.Core.Path.{_≡_};
 ghost use Rattle.tape.specs.Tape.{blank};

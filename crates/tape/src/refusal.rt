@@ -1,6 +1,6 @@
 // Refusals, in the order of document 01's table.
 ghost use mathlib.Core.Path.{_≡_};
-ghost use Rattle.tape.specs.Refusals.{row};
+ghost use Rattle.tape.specs.Refusals.{row, figure};
 
 pub enum Refusal {
     Cut(usize),
@@ -11,6 +11,12 @@ pub enum Refusal {
     Twice(usize),
     Absent(usize),
     Overrun(usize),
+    Length,
+    OffModel,
+    OverLimit,
+    Multiplier,
+    Wide,
+    NotShown,
 }
 
 pub fn number(refusal: Refusal) -> usize
@@ -25,12 +31,18 @@ pub fn number(refusal: Refusal) -> usize
         Refusal::Twice(_) => 6,
         Refusal::Absent(_) => 7,
         Refusal::Overrun(_) => 8,
+        Refusal::Length => 9,
+        Refusal::OffModel => 10,
+        Refusal::OverLimit => 11,
+        Refusal::Multiplier => 12,
+        Refusal::Wide => 13,
+        Refusal::NotShown => 14,
     }
 }
 
-// What it carries: the offset.
+// What it carries: an offset, and 0 for nothing.
 pub fn carried(refusal: Refusal) -> usize
-    ensures { λ r. ⌜ r ≡ row refusal .carried ⌝ }
+    ensures { λ r. ⌜ r ≡ figure (row refusal .carries) ⌝ }
 {
     match refusal {
         Refusal::Cut(at) => at,
@@ -41,5 +53,11 @@ pub fn carried(refusal: Refusal) -> usize
         Refusal::Twice(at) => at,
         Refusal::Absent(at) => at,
         Refusal::Overrun(at) => at,
+        Refusal::Length => 0,
+        Refusal::OffModel => 0,
+        Refusal::OverLimit => 0,
+        Refusal::Multiplier => 0,
+        Refusal::Wide => 0,
+        Refusal::NotShown => 0,
     }
 }

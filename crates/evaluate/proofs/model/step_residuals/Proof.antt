@@ -11,7 +11,7 @@ use Rattle.integer.specs.Places.{Stretch}
 use Rattle.integer.proofs.Sizes.{called, fits-by}
 use Rattle.integer.proofs.Places.{stretch-none, stretch-store}
 use Rattle.evaluate.specs.Padded.{paddedPlan}
-use Rattle.evaluate.proofs.LinearSizes.{modelAt, residualAt, size-next, size-residual}
+use Rattle.evaluate.proofs.LinearSizes.{modelAt, residualAt, size-units, size-residual}
 use Rattle.evaluate.proofs.model.step_residuals.Statement.{statement}
 use Rattle.evaluate.proofs.model.step_residuals.Tie as tie
 
@@ -62,7 +62,7 @@ module _ (c : tie.After-e Inv-loop μ-loop) where
   x-is = called x (c .e .given)
 
   next-fits : SFits w64 (pos 4096 *ℤ x)
-  next-fits = fits-by (pos 4096 *ℤ x) (size-next (s .pre .6) _) (omega arith)
+  next-fits = fits-by (pos 4096 *ℤ x) (size-units (s .pre .6) _) (omega arith)
 
   residual-fits : SFits w64 (model -ℤ pos 4096 *ℤ x)
   residual-fits =

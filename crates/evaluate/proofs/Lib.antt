@@ -4,3 +4,4 @@ pub mod Padding
 pub mod LinearSizes
 pub mod TermSizes
 pub mod TermTables
+pub mod FloorSizes

@@ -1,12 +1,12 @@
 -- Filling arrays and middle parts of slices: place by place, then as a whole.
 use Prim.Native.Nat.{ℕ, zero, suc, _+_, _-_, _*_, _/_, _%_, _<_, _≤_}
 use mathlib.Core.Path.{_≡_, refl, sym, _∙_, ap, subst}
-use mathlib.Core.Logic.{_⊎_, inl, inr}
+use mathlib.Core.Logic.{_⊎_, inl, inr, ⊎-elim}
 use mathlib.Core.List.{List, _++_}
 use native.Mathlib.Omega.{arith}
 use native.Mathlib.Decide.{decLe}
 use native.Mathlib.Nat.{div-add-mod, mod-lt, div-lt-iff-lt-mul}
-use lib.ListN.{length, length-set, getD, set, take, drop, replicate, List·getD-append}
+use lib.ListN.{length, length-set, getD, set, take, drop, replicate, List·getD-append, List·getD-eq-default}
 use lib.Seq.{getD-set-same, getD-set-other, getD-take, getD-drop, drop-at, length-take-le, ext-getD}
 use lib.IntN.{ℤ, pos, natAbs}
 use borrow.Rule.Slice.PartMut.{putMid, take-put, drop-put, same-len-mid, mid-len}
@@ -18,6 +18,14 @@ lt-or-le a b = go (decLe b a)
     go : Dec (b ≤ a) → (a < b) ⊎ (b ≤ a)
     go (yes p) = inr p
     go (no n) = inl (omega arith)
+
+-- ---- Bounds
+
+-- past the end stands 0
+pub all-bounded : {B : ℕ} (l : List ℤ) (n : ℕ) → length l ≡ n → ((p : ℕ) → p < n → natAbs (at l p) ≤ B) → Bounded B l
+all-bounded l n e h = record {
+  each = λ p. ⊎-elim (h p) (λ k. let m : length l ≤ p = omega arith in rw (List·getD-eq-default l (pos 0) m) (omega arith)) (lt-or-le p n);
+}
 
 -- ---- A stretch
 

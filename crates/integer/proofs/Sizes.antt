@@ -8,9 +8,9 @@ use native.Mathlib.Nat.{le-trans, mul-le-mul}
 use lib.IntN.{ℤ, pos, negsuc, negℤ, natAbs, _+ℤ_, _-ℤ_, _*ℤ_}
 use lib.Dec.{T}
 use lib.Signed.{mag, nonNeg, yes-nonNeg}
-use mir.Syntax.{Width, w64}
+use mir.Syntax.{Width, w32, w64}
 use mir.Val.{Fits, SFits, hbits, toZ, ofZ}
-use mir.Facts.{toZ-ofZ, fits-natAbs}
+use mir.Facts.{toZ-ofZ, fits-natAbs, sfits-widen}
 use Rattle.integer.specs.Order.{_≼_, _≺_}
 use Rattle.integer.specs.Places.{at, Bounded}
 use Rattle.integer.proofs.Parts.{up, dn, plus, minus, negated}
@@ -120,3 +120,10 @@ pub record Formed (z w : ℤ) : Type 0 where
 
 pub formed : {z w : ℤ} {B : ℕ} → z ≡ w → natAbs w ≤ B → B < 2 ^ 63 → Formed z w
 formed {z} {w} e h k = let f : SFits w64 z = rw e (fits-by w h k) in record { fits = f; is = toZ-ofZ f ∙ e }
+
+-- an i32 that the code reads and casts to i64
+pub widened : (z : ℤ) → mag z < 2 ^ 31 → Formed (toZ w32 (ofZ w32 z)) z
+widened z h =
+    let f : SFits w32 z = record { sfits = h } in
+    let g : SFits w64 z = sfits-widen tt f in
+    record { fits = rw (toZ-ofZ f) g; is = rw (toZ-ofZ f, toZ-ofZ g) }

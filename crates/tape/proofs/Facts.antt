@@ -10,12 +10,12 @@ use borrow.Author.Tests.{ltb-false, leb-false, not-false}
 use lib.Dec.{eqb, ltb, leb}
 use lib.ListN.{length, getD, set, replicate, length-set, length-replicate, getD-replicate}
 use lib.Seq.{getD-set-same, getD-set-other}
-use lib.IntN.{ℤ, pos, negsuc, negℤ, natAbs}
+use lib.IntN.{ℤ, pos, negsuc, natAbs}
 use lib.Signed.{ltZ}
 use Rattle.integer.specs.Order.{_≼_}
 use Rattle.integer.specs.Places.{at, Bounded}
 use Rattle.integer.proofs.Order.{order}
-use Rattle.integer.proofs.Sizes.{size-by, size-parts}
+use Rattle.integer.proofs.Sizes.{size-parts}
 use Rattle.integer.proofs.Operand.{Bytes, unsigned-range}
 use Rattle.integer.proofs.Places.{lt-or-le, zeros}
 use Rattle.tape.specs.declared.Answer.the-variants as answer
@@ -35,7 +35,7 @@ use Rattle.tape.specs.Format.{whole, decoded, sizeCommand, stateCommand,
 use Rattle.tape.specs.Format.{wrongSize, beyond, outside, wrongColumn, wrong, placeOf, withSize, with}
 use Rattle.tape.specs.Legal.{Legal}
 use Rattle.tape.specs.Reading.{marked, sized, lacks, absent, next, refusedTape, outcome, readFrom, opened, reading}
-use Rattle.tape.proofs.Tests.{by-test, none}
+use Rattle.tape.proofs.Tests.{by-test, none, in-range, in-size}
 use Rattle.tape.proofs.Steps.{next-leads}
 
 -- ---- Command 50: no test limits `gain` from above, nor `wanted`; the widths of their operands do
@@ -141,13 +141,6 @@ data Good (t : Tape) (given : List Bool) : Type 0 where
       Good t given
 
 -- ---- Each command keeps it
-
-in-range : (lo hi v : ℤ) → outside lo hi v ≡ false → (lo ≼ v) × (v ≼ hi)
-unfolding outside
-in-range lo hi v e = let o = none (ltZ v lo) (ltZ hi v ∷ []) e in omega (arith, order)
-
-in-size : (B : ℕ) (v : ℤ) → outside (negℤ (pos B)) (pos B) v ≡ false → natAbs v ≤ B
-in-size B v e = let h = in-range (negℤ (pos B)) (pos B) v e in size-by (h .0) (h .1)
 
 -- what the tests of command 30 leave
 record RightColumn (lo hi r h : ℤ) : Type 0 where

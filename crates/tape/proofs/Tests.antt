@@ -7,12 +7,17 @@ use mathlib.Core.List.{List, [], _∷_}
 use native.Mathlib.Omega.{arith}
 use lib.Dec.{leb}
 use lib.ListN.{length}
+use lib.IntN.{ℤ, pos, negℤ, natAbs}
+use lib.Signed.{ltZ}
 use borrow.Author.Tests.{le-leb, lt-leb, leb-false}
+use Rattle.integer.specs.Order.{_≼_}
+use Rattle.integer.proofs.Order.{order}
+use Rattle.integer.proofs.Sizes.{size-by}
 use Rattle.tape.specs.declared.command.Command.{Command}
 use Rattle.tape.specs.declared.command.Command.the-variants.{Cut}
 use Rattle.tape.specs.declared.command.Entry.{Entry}
 use Rattle.tape.specs.declared.command.Entry.the-variants.{State, Input, Drift, Column, Start, Rounds}
-use Rattle.tape.specs.Format.{whole, beyond}
+use Rattle.tape.specs.Format.{whole, beyond, outside}
 
 -- ---- Tests in a definition
 
@@ -37,6 +42,15 @@ none a (b ∷ l) e = let o = none (a || b) l e in both a (o .0) (o .1)
     both : (a : Bool) → a || b ≡ false → None l → None (a ∷ b ∷ l)
     both true e n = absurd (true≢false e)
     both false e n = (refl, (e, n))
+
+-- ---- A number in its range
+
+pub in-range : (lo hi v : ℤ) → outside lo hi v ≡ false → (lo ≼ v) × (v ≼ hi)
+unfolding outside
+in-range lo hi v e = let o = none (ltZ v lo) (ltZ hi v ∷ []) e in omega (arith, order)
+
+pub in-size : (B : ℕ) (v : ℤ) → outside (negℤ (pos B)) (pos B) v ≡ false → natAbs v ≤ B
+in-size B v e = let h = in-range (negℤ (pos B)) (pos B) v e in size-by (h .0) (h .1)
 
 -- ---- p || y, where the code has found p to be q: it goes on with q where q holds, and with y where it does not
 

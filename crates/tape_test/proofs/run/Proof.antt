@@ -5,10 +5,10 @@ use Rattle.tape_test.proofs.run.Statement.{statement}
 use Rattle.tape_test.proofs.run.Tie as tie
 
 abbrev Inv-loop : tie.InvT-loop
-Inv-loop text line₀ at₀ line at = (at ≤ length text)
+Inv-loop text case₀ at₀ case at = (at ≤ length text)
 
 abbrev μ-loop : tie.MeasureT-loop
-μ-loop text line₀ at₀ line at = length text - at
+μ-loop text case₀ at₀ case at = length text - at
 
 new-requires : tie.Need-new-requires Inv-loop μ-loop
 new-requires c κs = search needs
@@ -16,8 +16,14 @@ new-requires c κs = search needs
 loop-holds : tie.Need-loop-holds Inv-loop μ-loop
 loop-holds c = search needs
 
-shared-slice-read-next : tie.Need-shared-slice-read-next Inv-loop μ-loop
-shared-slice-read-next c = search needs
+shared-slice-read-c : tie.Need-shared-slice-read-c Inv-loop μ-loop
+shared-slice-read-c c = search needs
+
+show-requires : tie.Need-show-requires Inv-loop μ-loop
+show-requires c κs = search needs
+
+new-requires-2 : tie.Need-new-requires-2 Inv-loop μ-loop
+new-requires-2 c κs = search needs
 
 next-requires : tie.Need-next-requires Inv-loop μ-loop
 next-requires c κs = search needs
@@ -42,7 +48,9 @@ run-spec =
     μ-loop
     new-requires
     loop-holds
-    shared-slice-read-next
+    shared-slice-read-c
+    show-requires
+    new-requires-2
     next-requires
     add-at
     loop-less

@@ -1,0 +1,165 @@
+// Cases of the test programs: a line each, `read HEX`, `judge HEX / numbers / numbers` or
+// `show HEX / numbers`, as the second program takes them. What follows a # is passed over.
+use tape::refusal::Refusal;
+use tape::refusal::carried;
+use tape::refusal::number;
+
+// A case as far as it has been read, character by character. The kind is a letter of the line's
+// word, 0 before it. Digits of a tape are 0 to 9 and A to F; numbers are decimal.
+pub struct Case {
+    pub kind: u8,
+    pub comment: bool,
+    pub field: usize,
+    pub digits: usize,
+    pub tape: [u8; 512],
+    pub figure: u64,
+    pub negative: bool,
+    pub open: bool,
+    pub counts: [usize; 2],
+    pub first: [i32; 160],
+    pub second: [i32; 160],
+}
+
+impl Case {
+    pub fn new() -> Case {
+        let tape = [0u8; 512];
+        let counts = [0usize; 2];
+        let none = [0i32; 160];
+        Case {
+            kind: 0,
+            comment: false,
+            field: 0,
+            digits: 0,
+            tape: tape,
+            figure: 0,
+            negative: false,
+            open: false,
+            counts: counts,
+            first: none,
+            second: none,
+        }
+    }
+
+    // The case with one character more, which does not end the line.
+    pub fn next(self, c: u8) -> Case {
+        let mut case = self;
+        if case.comment {
+            return case;
+        }
+        match c {
+            b'#' => {
+                case.comment = true;
+                case
+            }
+            b'r' | b'j' | b'h' => {
+                case.kind = c;
+                case
+            }
+            b'/' => case.closed().moved(),
+            b' ' => case.closed(),
+            b'-' => {
+                case.negative = true;
+                case
+            }
+            b'0'..=b'9' => case.digit(c - b'0'),
+            b'A'..=b'F' => case.digit(c - b'A' + 10),
+            _ => case,
+        }
+    }
+
+    fn moved(mut self) -> Case {
+        if self.field < 2 {
+            self.field += 1;
+        }
+        self
+    }
+
+    fn digit(self, d: u8) -> Case {
+        if self.field == 0 {
+            return self.with_digit(d);
+        }
+        let mut case = self;
+        if case.figure <= 2147483648 {
+            case.figure = case.figure * 10 + d as u64;
+        }
+        case.open = true;
+        case
+    }
+
+    // One hexadecimal digit of the tape more.
+    fn with_digit(mut self, d: u8) -> Case {
+        let digits = self.digits;
+        if 1024 <= digits {
+            return self;
+        }
+        let at = digits / 2;
+        let high = self.tape[at];
+        if digits % 2 == 0 {
+            self.tape[at] = d;
+        } else {
+            self.tape[at] = high % 16 * 16 + d % 16;
+        }
+        self.digits = digits + 1;
+        self
+    }
+
+    // The number that a blank, a stroke or the line's end closes, where there is one.
+    pub fn closed(mut self) -> Case {
+        if !self.open {
+            return self;
+        }
+        let x = value(self.figure, self.negative);
+        let list = self.field;
+        if list == 1 {
+            let at = self.counts[0];
+            if at < 160 {
+                self.first[at] = x;
+                self.counts[0] = at + 1;
+            }
+        } else {
+            let at = self.counts[1];
+            if at < 160 {
+                self.second[at] = x;
+                self.counts[1] = at + 1;
+            }
+        }
+        self.figure = 0;
+        self.negative = false;
+        self.open = false;
+        self
+    }
+}
+
+// A figure with its sign; 0 where it is beyond an i32.
+fn value(figure: u64, negative: bool) -> i32 {
+    if 2147483648 < figure {
+        return 0;
+    }
+    let x = figure as i64;
+    if negative {
+        return narrow(-x);
+    }
+    narrow(x)
+}
+
+fn narrow(x: i64) -> i32 {
+    if x < -2147483648 {
+        return 0;
+    }
+    if 2147483647 < x {
+        return 0;
+    }
+    x as i32
+}
+
+// Writes a refusal: its number, and the offset that it carries or `-`.
+pub fn refused(why: Refusal) {
+    let n = number(why);
+    print::word(b"refused");
+    print::unsigned(n as u64);
+    if n < 9 {
+        print::unsigned(carried(why) as u64);
+    } else {
+        print::word(b" -");
+    }
+}

@@ -1,0 +1,118 @@
+-- Demand 3 over the definitions: what the judges answer is backed.
+use Prim.Native.Nat.{ℕ, _+_, _*_, _<_}
+use mathlib.Core.Path.{_≡_, refl}
+use mathlib.Core.Bool.{not, _||_}
+use mathlib.Core.List.{List, [], _∷_}
+use native.Mathlib.Omega.{arith}
+use borrow.Author.Tests.{eqb-true, not-false}
+use lib.Dec.{eqb}
+use lib.ListN.{length}
+use lib.IntN.{ℤ, _-ℤ_}
+use lib.Signed.{ltZ}
+use Rattle.integer.proofs.Order.{order}
+use Rattle.integer.proofs.Operand.{Bytes}
+use Rattle.tape.specs.declared.Answer.{Answer}
+use Rattle.tape.specs.declared.Answer.the-variants as answer
+use Rattle.tape.specs.declared.Tape.{Tape}
+use Rattle.tape.specs.Format.{outside}
+use Rattle.tape.specs.Legal.{Legal}
+use Rattle.tape.specs.Reading.{reading}
+use Rattle.tape.proofs.Tests.{by-test, none, in-range}
+use Rattle.tape.proofs.Facts.{legal}
+use Rattle.problem.specs.Model.{Problem, Plan, problemOf, planOf, multipliersOf, sumAt, rounded}
+use Rattle.problem.specs.Cost.{Follows, planCost}
+use Rattle.problem.specs.Dual.{floor, ceiling}
+use Rattle.problem.proofs.Duality.{gap-below-rivals, impossible}
+use Rattle.judge.specs.declared.Judged.{Judged}
+use Rattle.judge.specs.declared.Shown.{Shown}
+use Rattle.judge.specs.declared.walk.Check.{Check}
+use Rattle.judge.specs.declared.walk.Check.the-variants.{Passed, Refused}
+use Rattle.judge.specs.Checks.{first, limits, meets, stateCheck, stepCheck, planCheck, wrongMultipliers}
+use Rattle.judge.specs.Judging.{wrongPlanLength, wrongMultipliersLength, gapWithin, afterCheck, judgedOn, afterRead, floorAbove, shownOn, shownAfterRead}
+use Rattle.judge.specs.Judging as judging
+use Rattle.judge.specs.Demand.{Backed, Founded}
+use Rattle.judge.proofs.Steps.{both-passed, passed-test, first-each, limits-within}
+
+-- ---- A plan that passed follows the tape
+
+meets-model : (S v : ℤ) → meets S v ≡ Passed → v ≡ rounded S
+unfolding meets
+meets-model S v e = let h = in-range (rounded S) (rounded S) v (passed-test (outside (rounded S) (rounded S) v) _ e) in omega (arith, order)
+
+module _ (q : Problem) (v : Plan) where
+  abbrev inputCheck : ℕ → ℕ → Check
+  inputCheck k j = limits (q .inputTerm k j .low) (q .inputTerm k j .high) (v .u k j)
+
+  abbrev stateCheckAt : ℕ → ℕ → Check
+  stateCheckAt k i = stateCheck (sumAt q v k i) (q .stateTerm k i .low) (q .stateTerm k i .high) (v .x k i)
+
+  pub follows : planCheck q v ≡ Passed → Follows q v
+  unfolding planCheck stepCheck stateCheck
+  follows e = record {
+    inputs-within = λ k j h l. limits-within _ _ (v .u k j) (first-each (q .m) (inputCheck k) (step k h .0) j l);
+    states-meet = λ k i h l. meets-model (sumAt q v k i) (v .x k i) (state k i h l .0);
+    states-within = λ k i h l. limits-within _ _ (v .x k i) (state k i h l .1);
+  }
+    where
+      step : (k : ℕ) → k < q .horizon → (first (q .m) (inputCheck k) ≡ Passed) × (first (q .n) (stateCheckAt k) ≡ Passed)
+      step k h = both-passed _ _ (first-each (q .horizon) (stepCheck q v) e k h)
+
+      state : (k i : ℕ) → k < q .horizon → i < q .n → (meets (sumAt q v k i) (v .x k i) ≡ Passed) × (limits (q .stateTerm k i .low) (q .stateTerm k i .high) (v .x k i) ≡ Passed)
+      state k i h l = both-passed _ _ (first-each (q .n) (stateCheckAt k) (step k h .1) i l)
+
+-- ---- Judging a plan
+
+module _ (t : Tape) (ok : Legal t) (plan y : List ℤ) where
+  abbrev v : Plan
+  v = planOf (t .n) (t .m) plan
+
+  abbrev gap : ℤ
+  gap = planCost (problemOf t) v -ℤ floor (problemOf t) (multipliersOf (t .n) y)
+
+  backed-check : (c : Check) → planCheck (problemOf t) v ≡ c → length plan ≡ t .horizon * (t .n + t .m) → Backed (afterCheck c (gapWithin t gap)) t plan
+  unfolding gapWithin
+  backed-check Passed e l =
+      by-test (λ j. Backed j t plan) (ltZ (t .wanted) gap) (λ _. tt)
+      (λ _. record { accepted = record { long = l; follows = follows (problemOf t) v e }; bound = λ rival r. gap-below-rivals t ok plan y rival r })
+  backed-check (Refused why) e l = tt
+
+  backed-on : Backed (judgedOn t plan y) t plan
+  unfolding judgedOn
+  backed-on =
+      by-test (λ j. Backed j t plan) (wrongPlanLength t plan || wrongMultipliersLength t y) (λ _. tt)
+      (λ e. by-test (λ j. Backed j t plan) (wrongMultipliers y) (λ _. tt)
+      (λ _. backed-check (planCheck (problemOf t) v) refl
+      (eqb-true _ _ (not-false _ (none (wrongPlanLength t plan) (wrongMultipliersLength t y ∷ []) e .0)))))
+
+  founded-on : Founded (shownOn t y) t
+  unfolding shownOn floorAbove
+  founded-on =
+      by-test (λ j. Founded j t) (wrongMultipliersLength t y) (λ _. tt)
+      (λ _. by-test (λ j. Founded j t) (wrongMultipliers y) (λ _. tt)
+      (λ _. by-test (λ j. Founded j t) (ltZ (ceiling (problemOf t)) (floor (problemOf t) (multipliersOf (t .n) y)))
+      (λ e. record { none = λ rival r. impossible t ok y rival (omega (arith, order)) r }) (λ _. tt)))
+
+pub backed : (s : List ℕ) (plan y : List ℤ) → Bytes s → Backed (judging.judged s plan y) (reading s .tape) plan
+unfolding judging.judged
+backed s plan y b = go (reading s .answer) refl
+  where
+    go : (a : Answer) → reading s .answer ≡ a → Backed (afterRead a (judgedOn (reading s .tape) plan y)) (reading s .tape) plan
+    go answer.Accepted e = backed-on (reading s .tape) (legal s b e) plan y
+    go (answer.Refused why) e = tt
+
+pub founded : (s : List ℕ) (y : List ℤ) → Bytes s → Founded (judging.shown s y) (reading s .tape)
+unfolding judging.shown
+founded s y b = go (reading s .answer) refl
+  where
+    go : (a : Answer) → reading s .answer ≡ a → Founded (shownAfterRead a (shownOn (reading s .tape) y)) (reading s .tape)
+    go answer.Accepted e = founded-on (reading s .tape) (legal s b e) y y
+    go (answer.Refused why) e = tt
+
+-- both clauses of a judge's promise from the first
+pub plan-promise : (s : List ℕ) (plan y : List ℤ) {r : Judged} → Bytes s → r ≡ judging.judged s plan y →
+    (r ≡ judging.judged s plan y) × Backed r (reading s .tape) plan
+plan-promise s plan y b e = (e, rw e (backed s plan y b))
+
+pub multipliers-promise : (s : List ℕ) (y : List ℤ) {r : Shown} → Bytes s → r ≡ judging.shown s y →
+    (r ≡ judging.shown s y) × Founded r (reading s .tape)
+multipliers-promise s y b e = (e, rw e (founded s y b))

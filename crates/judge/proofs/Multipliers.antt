@@ -1,0 +1,69 @@
+-- Lent multipliers: read as i64, tested for their range, and put at padded places.
+use Prim.Native.Nat.{ℕ, zero, suc, _+_, _*_, _<_, _≤_}
+use mathlib.Core.Path.{_≡_, refl, _∙_}
+use mathlib.Core.Bool.{Bool, true, false, cond, or-true}
+use mathlib.Core.Logic.{_⊎_, inl, inr, ⊎-elim}
+use mathlib.Core.List.{List, [], _∷_}
+use native.Mathlib.Numerals.{add-one}
+use native.Mathlib.Omega.{arith}
+use lib.Dec.{ltb}
+use lib.ListN.{length}
+use lib.IntN.{ℤ, pos, natAbs}
+use borrow.Author.Tests.{ltb-true, ltb-false, lt-ltb, le-ltb}
+use Rattle.integer.specs.Places.{at, Bounded, Stretch, Steps}
+use Rattle.integer.proofs.Places.{lt-or-le, all-bounded, steps-bounded}
+use Rattle.tape.specs.Format.{outside}
+use Rattle.tape.proofs.Tests.{in-size, by-test, none}
+use Rattle.problem.specs.Model.{multipliersOf}
+use Rattle.judge.specs.Checks.{any, wrongMultipliers}
+use Rattle.judge.specs.Held.{HeldMultipliers}
+
+-- ---- The test of their range
+
+pub any-at : (count p : ℕ) (f : ℕ → Bool) → p < count → f p ≡ true → any count f ≡ true
+unfolding any
+any-at zero p f h e = let z : ⊥ = omega arith in absurd z
+any-at (suc count) p f h e =
+    ⊎-elim (λ l. rw (any-at count p f l e)) (λ l. let z : count ≡ p = omega arith in rw (z, e) (or-true (any p f))) (lt-or-le p count)
+
+pub any-more : (count : ℕ) (f : ℕ → Bool) → any count f ≡ false → f count ≡ false → any (count + 1) f ≡ false
+unfolding any
+any-more count f e h = rw (add-one count, e, h)
+
+any-none : (count p : ℕ) (f : ℕ → Bool) → p < count → any count f ≡ false → f p ≡ false
+unfolding any
+any-none zero p f h e = let z : ⊥ = omega arith in absurd z
+any-none (suc count) p f h e =
+    let o = none (any count f) (f count ∷ []) e in
+    ⊎-elim (λ l. any-none count p f l (o .0)) (λ l. let z : p ≡ count = omega arith in rw z (o .1 .0)) (lt-or-le p count)
+
+multipliers-bounded : (l : List ℤ) → wrongMultipliers l ≡ false → Bounded 16777216 l
+multipliers-bounded l e = all-bounded l (length l) refl (λ p h. in-size 16777216 (at l p) (any-none (length l) p _ h e))
+
+-- ---- Padded places
+
+-- f below n, and 0 from n on
+unfoldable pub upTo : ℕ → (ℕ → ℤ) → ℕ → ℤ
+upTo n f i = cond (ltb i n) (f i) (pos 0)
+
+-- n places filled where 0 stood are w places, 0 from n on
+pub stretch-upTo : (o n w : ℕ) (f : ℕ → ℤ) (old new : List ℤ) → n ≤ w → ((p : ℕ) → o ≤ p → at old p ≡ pos 0) →
+    Stretch o n f old new → Stretch o w (upTo n f) old new
+unfolding upTo
+stretch-upTo o n w f old new h blank s = record {
+  inside = λ i _.
+      by-test (λ z. at new (o + i) ≡ z) (ltb i n) (λ t. s .inside i (ltb-true i n t))
+      (λ t. s .outside (o + i) (inr (omega (arith, ltb-false i n t))) ∙ blank (o + i) (omega arith));
+  outside = λ p. ⊎-elim (λ l. s .outside p (inl l)) (λ l. s .outside p (inr (omega arith)));
+  same = s .same;
+}
+
+pub held : (n N : ℕ) (l y : List ℤ) → n ≤ 6 → wrongMultipliers l ≡ false → Steps 6 N (λ k. upTo n (multipliersOf n l k)) y → HeldMultipliers n N l y
+unfolding upTo
+held n N l y h e s = record {
+  same = λ k i a b. s .each k i a (omega arith) ∙ rw (lt-ltb i n b);
+  blank = record { each = λ k i a b. ⊎-elim (λ c. s .each k i c b ∙ rw (le-ltb i n a)) (λ c. s .rest (6 * k + i) (omega arith)) (lt-or-le k N) };
+  bounded =
+      steps-bounded 6 N _ y (omega arith) s
+      (λ k i _ _. by-test (λ z. natAbs z ≤ 16777216) (ltb i n) (λ _. multipliers-bounded l e .each (k * n + i)) (λ _. omega arith));
+}

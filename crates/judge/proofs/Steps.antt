@@ -1,0 +1,218 @@
+-- The walk along a plan: the first refusal, what has passed, the padded places that are filled, and a whole step.
+use Prim.Native.Nat.{ℕ, zero, suc, _+_, _*_, _-_, _<_, _≤_}
+use mathlib.Core.Path.{_≡_, refl, sym, _∙_, ap, ap₂}
+use mathlib.Core.Bool.{Bool, true, false, cond}
+use mathlib.Core.Logic.{_⊎_, inl, inr, ⊎-elim}
+use mathlib.Core.List.{List}
+use native.Mathlib.Numerals.{add-one}
+use native.Mathlib.Omega.{arith}
+use lib.ListN.{length, replicate, length-replicate}
+use lib.IntN.{ℤ, pos, natAbs}
+use Rattle.integer.specs.Order.{_≼_}
+use Rattle.integer.specs.Places.{at, Bounded, Stretch}
+use Rattle.integer.proofs.Order.{order}
+use Rattle.integer.proofs.Sizes.{size-parts}
+use Rattle.integer.proofs.Places.{lt-or-le, zeros}
+use Rattle.tape.specs.declared.Tape.{Tape}
+use Rattle.tape.specs.declared.refusal.Refusal.{Refusal}
+use Rattle.tape.specs.Format.{outside}
+use Rattle.tape.specs.Legal.{Legal}
+use Rattle.tape.proofs.Tests.{in-range}
+use Rattle.problem.specs.Model.{Term, problemOf, planOf, stateAt, modelSum, sumAt}
+use Rattle.problem.proofs.Congruence.{model-cong}
+use Rattle.evaluate.specs.Padded.{stateMatrix, inputMatrix, paddedPlan}
+use Rattle.evaluate.specs.Terms.{TermsOf}
+use Rattle.evaluate.proofs.LinearSizes.{modelAt}
+use Rattle.evaluate.proofs.Padding.{model-padded}
+use Rattle.judge.specs.declared.walk.Check.{Check}
+use Rattle.judge.specs.declared.walk.Check.the-variants.{Passed, Refused}
+use Rattle.judge.specs.Checks.{orElse, first, limits, meets, stateCheck, stepCheck}
+use Rattle.judge.specs.Held.{HeldPlan, Filled, HeldWhere}
+
+-- ---- The first refusal
+
+pub first-none : (f : ℕ → Check) → first 0 f ≡ Passed
+unfolding first
+first-none f = refl
+
+pub first-passed : (n : ℕ) (f : ℕ → Check) → first n f ≡ Passed → f n ≡ Passed → first (n + 1) f ≡ Passed
+unfolding first
+first-passed n f e d = ap (λ (k : ℕ). first k f) (add-one n) ∙ ap₂ orElse e d
+
+pub first-refused : {why : Refusal} (i n : ℕ) (f : ℕ → Check) → i < n → first i f ≡ Passed → f i ≡ Refused why → first n f ≡ Refused why
+unfolding first
+first-refused i zero f h e d = let z : ⊥ = omega arith in absurd z
+first-refused i (suc n) f h e d =
+    ⊎-elim (λ l. ap (λ (c : Check). orElse c (f n)) (first-refused i n f l e d)) (λ l. let q : n ≡ i = omega arith in rw q (ap₂ orElse e d))
+    (lt-or-le i n)
+
+first-cong : (n : ℕ) (f g : ℕ → Check) → ((j : ℕ) → j < n → f j ≡ g j) → first n f ≡ first n g
+unfolding first
+first-cong zero f g h = refl
+first-cong (suc n) f g h = ap₂ orElse (first-cong n f g (λ j p. h j (omega arith))) (h n (omega arith))
+
+pub both-passed : (c d : Check) → orElse c d ≡ Passed → (c ≡ Passed) × (d ≡ Passed)
+both-passed Passed d e = (refl, e)
+both-passed (Refused why) d e = let z : _≡_ {A = ℕ} 0 1 = cc in absurd (omega arith)
+
+pub first-each : (n : ℕ) (f : ℕ → Check) → first n f ≡ Passed → (j : ℕ) → j < n → f j ≡ Passed
+unfolding first
+first-each zero f e j h = let z : ⊥ = omega arith in absurd z
+first-each (suc n) f e j h =
+    let b = both-passed (first n f) (f n) e in
+    ⊎-elim (λ l. first-each n f (b .0) j l) (λ l. let q : j ≡ n = omega arith in rw q (b .1)) (lt-or-le j n)
+
+-- a test that refuses has failed
+pub passed-test : (test : Bool) (why : Refusal) → cond test (Refused why) Passed ≡ Passed → test ≡ false
+passed-test true why e = let z : _≡_ {A = ℕ} 0 1 = cc in absurd (omega arith)
+passed-test false why e = refl
+
+-- ---- What has passed lies within its limits, and so is no larger than they are
+
+pub limits-within : (lo hi v : ℤ) → limits lo hi v ≡ Passed → (lo ≼ v) × (v ≼ hi)
+unfolding limits
+limits-within lo hi v e = in-range lo hi v (passed-test (outside lo hi v) _ e)
+
+limits-size : (lo hi v : ℤ) {B : ℕ} → natAbs lo ≤ B → natAbs hi ≤ B → limits lo hi v ≡ Passed → natAbs v ≤ B
+limits-size lo hi v l h e = let w = limits-within lo hi v e in omega (arith, order, size-parts lo, size-parts hi, size-parts v)
+
+pub state-size : (S lo hi v : ℤ) {B : ℕ} → natAbs lo ≤ B → natAbs hi ≤ B → stateCheck S lo hi v ≡ Passed → natAbs v ≤ B
+unfolding stateCheck
+state-size S lo hi v l h e = limits-size lo hi v l h (both-passed (meets S v) (limits lo hi v) e .1)
+
+-- ---- What the two loops of a step test
+
+-- place j of the inputs, and place i of the states, of step k
+abbrev pub inputCheckAt : List ℤ → List ℤ → List ℤ → ℕ → ℕ → ℕ → Check
+inputCheckAt low high plan from k j = limits (at low (10 * k + j)) (at high (10 * k + j)) (at plan (from + j))
+
+abbrev pub stateCheckAt : List ℤ → List ℤ → List ℤ → List ℤ → List ℤ → List ℤ → List ℤ → List ℤ → ℕ → ℕ → ℕ → Check
+stateCheckAt a b drift start low high plan v from k i =
+    stateCheck (modelAt a b drift start v k i) (at low (10 * k + (4 + i))) (at high (10 * k + (4 + i))) (at plan (from + i))
+
+-- all of them, for a tape and a plan l
+abbrev pub inputsCheck : Tape → List ℤ → List ℤ → List ℤ → ℕ → Check
+inputsCheck t low high l k = first (t .m) (inputCheckAt low high l (k * (t .n + t .m)) k)
+
+abbrev pub statesCheck : Tape → List ℤ → List ℤ → List ℤ → List ℤ → ℕ → Check
+statesCheck t low high l w k = first (t .n) (stateCheckAt (t .a) (t .b) (t .drift) (t .start) low high l w (k * (t .n + t .m) + t .m) k)
+
+-- ---- Filled places
+
+pub stretch-bounded : {B o w : ℕ} {f : ℕ → ℤ} {old new : List ℤ} → Bounded B old → ((j : ℕ) → j < w → natAbs (f j) ≤ B) →
+    Stretch o w f old new → Bounded B new
+stretch-bounded {B} {o} {w} {f} {old} {new} b h s = record { each = λ p. go p (lt-or-le p o) (lt-or-le p (o + w)) }
+  where
+    go : (p : ℕ) → (p < o) ⊎ (o ≤ p) → (p < o + w) ⊎ (o + w ≤ p) → natAbs (at new p) ≤ B
+    go p (inl l) _ = rw (s .outside p (inl l)) (b .each p)
+    go p (inr l) (inr k) = rw (s .outside p (inr k)) (b .each p)
+    go p (inr l) (inl k) = let e : p ≡ o + (p - o) = omega arith in rw (e, s .inside (p - o) (omega arith)) (h (p - o) (omega arith))
+
+stretch-beside : {o w : ℕ} {f : ℕ → ℤ} {old new : List ℤ} → Stretch o w f old new → (p : ℕ) → (o ≤ p → o + w ≤ p) → at new p ≡ at old p
+stretch-beside {o} s p h = ⊎-elim (λ l. s .outside p (inl l)) (λ l. s .outside p (inr (h l))) (lt-or-le p o)
+
+-- the states before step k are the start's, or those of the step before
+states-before : {f g : ℕ → ℕ → ℤ} (start : ℕ → ℤ) (k n : ℕ) → ((q i : ℕ) → q < k → i < n → f q i ≡ g q i) →
+    (i : ℕ) → i < n → stateAt start f k i ≡ stateAt start g k i
+unfolding stateAt
+states-before start zero n h i l = refl
+states-before start (suc k) n h i l = h k i (omega arith) l
+
+-- S of step k reads the states before the step and its inputs: it stays as it is while the step's states are stored
+pub model-kept : {f : ℕ → ℤ} {old new : List ℤ} (a b drift start : List ℤ) (k i w : ℕ) → Stretch (10 * k + 4) w f old new →
+    modelAt a b drift start new k i ≡ modelAt a b drift start old k i
+model-kept a b drift start k i w s =
+    model-cong 6 4 (stateMatrix a) (inputMatrix b) (at drift) _ _ _ _ i
+    (states-before (at start) k 6 (λ q j h l. s .outside (10 * q + (4 + j)) (inl (omega arith))))
+    (λ j h. s .outside (10 * k + j) (inl (omega arith)))
+
+-- ---- A step of the plan l, of which v holds the steps before: its inputs are stored in w, then its states in z
+
+pub held-none : (n m : ℕ) (l : List ℤ) → HeldPlan n m 0 l (replicate 120 (pos 0))
+held-none n m l = record {
+  input = λ q j h. let z : ⊥ = omega arith in absurd z;
+  state = λ q i h. let z : ⊥ = omega arith in absurd z;
+  blank = record { input = λ q j _ _ _. zeros 120 (10 * q + j); state = λ q i _ _ _. zeros 120 (10 * q + (4 + i)) };
+  bounded = record { each = λ p. rw (zeros 120 p) (omega arith) };
+  long = length-replicate 120 (pos 0);
+}
+
+module _ {n m k : ℕ} {l v w : List ℤ} (few : (n ≤ 6) × (m ≤ 4)) (held : HeldPlan n m k l v)
+    (inputs : Stretch (10 * k) m (planOf n m l .u k) v w) where
+  model-held : (A B : ℕ → ℕ → ℤ) (drift start : ℕ → ℤ) (i : ℕ) →
+      modelSum n m A B drift (stateAt start (paddedPlan w .x) k) (paddedPlan w .u k) i
+      ≡ modelSum n m A B drift (stateAt start (planOf n m l .x) k) (planOf n m l .u k) i
+  model-held A B drift start i =
+      model-cong n m A B drift _ _ _ _ i
+      (states-before start k n (λ q j h b. inputs .outside (10 * q + (4 + j)) (inl (omega arith)) ∙ held .state q j h b)) (inputs .inside)
+
+  held-next : {z : List ℤ} → Stretch (10 * k + 4) n (λ i. at l (k * (n + m) + m + i)) w z → Bounded 20000 z → HeldPlan n m (k + 1) l z
+  held-next {z} states bounded = record {
+    input = λ q j h b.
+        ⊎-elim (λ a. kept (10 * q + j) (λ c. omega arith) (λ c. omega arith) ∙ held .input q j a b)
+        (λ a. let e : q ≡ k = omega arith in rw e (states .outside (10 * k + j) (inl (omega arith)) ∙ inputs .inside j b)) (lt-or-le q k);
+    state = λ q i h b.
+        ⊎-elim (λ a. kept (10 * q + (4 + i)) (λ c. omega arith) (λ c. omega arith) ∙ held .state q i a b)
+        (λ a. let e : q ≡ k = omega arith in
+        let d : 10 * k + (4 + i) ≡ 10 * k + 4 + i = omega arith in
+        let f : k * (n + m) + m + i ≡ k * (n + m) + (m + i) = omega arith in
+        rw e (ap (at z) d ∙ states .inside i b ∙ ap (at l) f)) (lt-or-le q k);
+    blank = record {
+      input = λ q j h a b. kept (10 * q + j) (λ c. omega arith) (λ c. omega arith) ∙ held .blank .input q j h a b;
+      state = λ q i h a b. kept (10 * q + (4 + i)) (λ c. omega arith) (λ c. omega arith) ∙ held .blank .state q i h a b;
+    };
+    bounded = bounded;
+    long = states .same ∙ inputs .same ∙ held .long;
+  }
+    where
+      kept : (p : ℕ) → (10 * k ≤ p → 10 * k + m ≤ p) → (10 * k + 4 ≤ p → 10 * k + 4 + n ≤ p) → at z p ≡ at v p
+      kept p a b = stretch-beside states p b ∙ stretch-beside inputs p a
+
+-- the tests by the tables are the tape's
+module _ {t : Tape} {penalty low high reference : List ℤ} (legal : Legal t) (terms : TermsOf t penalty low high reference)
+    {k : ℕ} (early : k < 12) (l : List ℤ) where
+  inputs-checked : first (t .m) (λ j. limits (problemOf t .inputTerm k j .low) (problemOf t .inputTerm k j .high) (planOf (t .n) (t .m) l .u k j))
+      ≡ inputsCheck t low high l k
+  inputs-checked =
+      first-cong (t .m) _ _ (λ j h. ap (λ (a : Term). limits (a .low) (a .high) (planOf (t .n) (t .m) l .u k j)) (sym (terms .input k j early h)))
+
+  pub step-refused : {why : Refusal} → inputsCheck t low high l k ≡ Refused why → stepCheck (problemOf t) (planOf (t .n) (t .m) l) k ≡ Refused why
+  unfolding stepCheck
+  step-refused e = ap₂ orElse (inputs-checked ∙ e) refl
+
+  -- once the inputs have passed
+  module _ {v w : List ℤ} (held : HeldPlan (t .n) (t .m) k l v) (passed : inputsCheck t low high l k ≡ Passed)
+      (inputs : Stretch (10 * k) (t .m) (planOf (t .n) (t .m) l .u k) v w) where
+    pub inputs-bounded : Bounded 20000 w
+    inputs-bounded =
+        stretch-bounded (held .bounded)
+        (λ j h. let p = 10 * k + j in
+        let g = terms .tables .each p (omega arith) in
+        limits-size (at low p) (at high p) (planOf (t .n) (t .m) l .u k j) (g .low) (g .high) (first-each (t .m) _ passed j h))
+        inputs
+
+    state-checked : (i : ℕ) → i < t .n →
+        stateCheck (sumAt (problemOf t) (planOf (t .n) (t .m) l) k i) (at (t .low) i) (at (t .high) i) (planOf (t .n) (t .m) l .x k i)
+        ≡ stateCheckAt (t .a) (t .b) (t .drift) (t .start) low high l w (k * (t .n + t .m) + t .m) k i
+    state-checked i h =
+        let e : k * (t .n + t .m) + t .m + i ≡ k * (t .n + t .m) + (t .m + i) = omega arith in
+        rw e
+        (sym
+        (ap₂ (λ (S : ℤ) (a : Term). stateCheck S (a .low) (a .high) (planOf (t .n) (t .m) l .x k i))
+        (model-padded t legal penalty low high reference terms _ _ i ∙ model-held (legal .states .1, legal .inputs .1) held inputs _ _ _ _ i)
+        (terms .state k i early h)))
+
+    pub step-states : stepCheck (problemOf t) (planOf (t .n) (t .m) l) k ≡ statesCheck t low high l w k
+    unfolding stepCheck
+    step-states = ap₂ orElse (inputs-checked ∙ passed) (first-cong (t .n) _ _ state-checked)
+
+    pub held-where : (z : List ℤ) (r : Check) → r ≡ statesCheck t low high l w k →
+        Filled r (10 * k + 4) (t .n) (λ i. at l (k * (t .n + t .m) + t .m + i)) w z → HeldWhere r (t .n) (t .m) (k + 1) l z
+    held-where z Passed e states =
+        held-next (legal .states .1, legal .inputs .1) held inputs states
+        (stretch-bounded inputs-bounded
+        (λ i h. let p = 10 * k + (4 + i) in
+        let g = terms .tables .each p (omega arith) in
+        state-size _ (at low p) (at high p) (at l (k * (t .n + t .m) + t .m + i)) (g .low) (g .high) (first-each (t .n) _ (sym e) i h))
+        states)
+    held-where z (Refused why) e states = tt

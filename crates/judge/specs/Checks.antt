@@ -1,0 +1,54 @@
+-- The tests of lent numbers: 12 of the multipliers, and 11 and 10 of the plan from the front.
+use Prim.Native.Nat.{ℕ, zero, suc}
+use mathlib.Core.Bool.{Bool, false, cond, _||_}
+use mathlib.Core.List.{List}
+use lib.ListN.{length}
+use lib.IntN.{ℤ, pos, negsuc}
+use Rattle.integer.specs.Places.{at}
+use Rattle.tape.specs.Format.{outside}
+use Rattle.tape.specs.declared.refusal.Refusal.the-variants.{OffModel, OverLimit}
+use Rattle.problem.specs.Model.{Problem, Plan, sumAt, rounded}
+use Rattle.judge.specs.declared.walk.Check.{Check}
+use Rattle.judge.specs.declared.walk.Check.the-variants.{Passed, Refused}
+
+-- ---- Multipliers, from −16,777,216 to 16,777,216
+
+-- f holds of a number below count
+unfoldable pub any : ℕ → (ℕ → Bool) → Bool
+any zero f = false
+any (suc count) f = any count f || f count
+
+abbrev pub wrongMultipliers : List ℤ → Bool
+wrongMultipliers y = any (length y) (λ p. outside (negsuc 16777215) (pos 16777216) (at y p))
+
+-- ---- The plan
+
+abbrev pub orElse : Check → Check → Check
+orElse Passed c = c
+orElse (Refused why) c = Refused why
+
+-- the first refusal of f 0, f 1, .. below count
+unfoldable pub first : ℕ → (ℕ → Check) → Check
+first zero f = Passed
+first (suc count) f = orElse (first count f) (f count)
+
+-- 11: v is outside lo to hi
+unfoldable pub limits : ℤ → ℤ → ℤ → Check
+limits lo hi v = cond (outside lo hi v) (Refused OverLimit) Passed
+
+-- 10: v differs from the state that S gives, which is to say that it is outside that one number
+unfoldable pub meets : ℤ → ℤ → Check
+meets S v = cond (outside (rounded S) (rounded S) v) (Refused OffModel) Passed
+
+-- a state: 10 before 11
+unfoldable pub stateCheck : ℤ → ℤ → ℤ → ℤ → Check
+stateCheck S lo hi v = orElse (meets S v) (limits lo hi v)
+
+-- a step: its inputs, then its states
+unfoldable pub stepCheck : Problem → Plan → ℕ → Check
+stepCheck q v k =
+    orElse (first (q .m) (λ j. limits (q .inputTerm k j .low) (q .inputTerm k j .high) (v .u k j)))
+    (first (q .n) (λ i. stateCheck (sumAt q v k i) (q .stateTerm k i .low) (q .stateTerm k i .high) (v .x k i)))
+
+unfoldable pub planCheck : Problem → Plan → Check
+planCheck q v = first (q .horizon) (stepCheck q v)

@@ -1,0 +1,71 @@
+-- Document 01, "Calls": judging a plan with multipliers, and multipliers for impossibility.
+use Prim.Native.Nat.{ℕ, _+_, _*_}
+use mathlib.Core.Bool.{Bool, not, cond, _||_}
+use mathlib.Core.List.{List}
+use lib.Dec.{eqb}
+use lib.ListN.{length}
+use lib.IntN.{ℤ, _-ℤ_}
+use lib.Signed.{ltZ}
+use Rattle.tape.specs.Reading.{reading}
+use Rattle.tape.specs.declared.Answer.{Answer}
+use Rattle.tape.specs.declared.Answer.the-variants as answer
+use Rattle.tape.specs.declared.Tape.{Tape}
+use Rattle.tape.specs.declared.refusal.Refusal.the-variants.{Length, Multiplier, Wide, NotShown}
+use Rattle.problem.specs.Model.{problemOf, planOf, multipliersOf}
+use Rattle.problem.specs.Cost.{planCost}
+use Rattle.problem.specs.Dual.{floor, ceiling}
+use Rattle.judge.specs.declared.Judged.{Judged}
+use Rattle.judge.specs.declared.Judged.the-variants.{Gap, Refused}
+use Rattle.judge.specs.declared.Shown.{Shown}
+use Rattle.judge.specs.declared.Shown.the-variants as answers
+use Rattle.judge.specs.declared.walk.Check.{Check}
+use Rattle.judge.specs.declared.walk.Check.the-variants as check
+use Rattle.judge.specs.Checks.{wrongMultipliers, planCheck}
+
+-- 9: N(n+m) plan numbers, N × n multipliers
+abbrev pub wrongPlanLength : Tape → List ℤ → Bool
+wrongPlanLength t plan = not (eqb (length plan) (t .horizon * (t .n + t .m)))
+
+abbrev pub wrongMultipliersLength : Tape → List ℤ → Bool
+wrongMultipliersLength t y = not (eqb (length y) (t .horizon * t .n))
+
+-- 13: the gap is above T
+unfoldable pub gapWithin : Tape → ℤ → Judged
+gapWithin t gap = cond (ltZ (t .wanted) gap) (Refused Wide) (Gap gap)
+
+abbrev pub afterCheck : Check → Judged → Judged
+afterCheck check.Passed passed = passed
+afterCheck (check.Refused why) passed = Refused why
+
+-- 9, 12, the plan, 13
+unfoldable pub judgedOn : Tape → List ℤ → List ℤ → Judged
+judgedOn t plan y =
+    cond (wrongPlanLength t plan || wrongMultipliersLength t y) (Refused Length)
+    (cond (wrongMultipliers y) (Refused Multiplier)
+    (afterCheck (planCheck (problemOf t) (planOf (t .n) (t .m) plan))
+    (gapWithin t (planCost (problemOf t) (planOf (t .n) (t .m) plan) -ℤ floor (problemOf t) (multipliersOf (t .n) y)))))
+
+abbrev pub afterRead : Answer → Judged → Judged
+afterRead answer.Accepted accepted = accepted
+afterRead (answer.Refused why) accepted = Refused why
+
+unfoldable pub judged : List ℕ → List ℤ → List ℤ → Judged
+judged s plan y = afterRead (reading s .answer) (judgedOn (reading s .tape) plan y)
+
+-- 14: the floor is not above the ceiling
+unfoldable pub floorAbove : Tape → ℤ → Shown
+floorAbove t floor = cond (ltZ (ceiling (problemOf t)) floor) answers.Shown (answers.Refused NotShown)
+
+-- 9, 12, 14
+unfoldable pub shownOn : Tape → List ℤ → Shown
+shownOn t y =
+    cond (wrongMultipliersLength t y) (answers.Refused Length)
+    (cond (wrongMultipliers y) (answers.Refused Multiplier)
+    (floorAbove t (floor (problemOf t) (multipliersOf (t .n) y))))
+
+abbrev pub shownAfterRead : Answer → Shown → Shown
+shownAfterRead answer.Accepted accepted = accepted
+shownAfterRead (answer.Refused why) accepted = answers.Refused why
+
+unfoldable pub shown : List ℕ → List ℤ → Shown
+shown s y = shownAfterRead (reading s .answer) (shownOn (reading s .tape) y)

@@ -1,0 +1,177 @@
+// Judging a plan with multipliers, and multipliers for impossibility.
+mod lent;
+pub mod walk;
+
+ghost use mathlib.Core.Path.{_≡_};
+ghost use lib.ListN.{length};
+ghost use lib.IntN.{_-ℤ_};
+ghost use Rattle.integer.specs.Places.{Bounded};
+ghost use Rattle.tape.specs.Legal.{Legal};
+ghost use Rattle.tape.specs.Reading.{reading};
+ghost use Rattle.problem.specs.Model.{problemOf};
+ghost use Rattle.problem.specs.Cost.{planCost};
+ghost use Rattle.problem.specs.Dual.{floor};
+ghost use Rattle.evaluate.specs.Padded.{padded, paddedPlan};
+ghost use Rattle.evaluate.specs.Terms.{TermsOf};
+ghost use Rattle.judge.specs.Judging.{gapWithin, judgedOn, judged, floorAbove, shownOn, shown};
+ghost use Rattle.judge.specs.Demand.{Backed, Founded};
+ghost use Rattle.judge.specs.Held.{BlankPlan, BlankMultipliers};
+use crate::lent::is_any_outside;
+use crate::lent::padded_multipliers;
+use crate::walk::Check;
+use crate::walk::checked_plan;
+use evaluate::cost::ceiling_of;
+use evaluate::cost::plan_cost;
+use evaluate::dual::floor_of;
+use evaluate::terms::Terms;
+use evaluate::terms::terms_of;
+use tape::Answer;
+use tape::Tape;
+use tape::read;
+use tape::refusal::Refusal;
+
+pub enum Judged {
+    Gap(i64),
+    Refused(Refusal),
+}
+
+pub enum Shown {
+    Shown,
+    Refused(Refusal),
+}
+
+// Judges a plan with multipliers: the gap, or the first refusal.
+pub fn judge_plan(tape: &[u8], plan: &[i32], multipliers: &[i32]) -> Judged
+    ensures { λ r. ⌜ r ≡ judged (now (tape .entry)) (now (plan .entry)) (now (multipliers .entry)) ⌝ }
+    ensures { λ r. ⌜ Backed r (reading (now (tape .entry)) .tape) (now (plan .entry)) ⌝ }
+{
+    let result = read(tape);
+    let answer = result.answer;
+    match answer {
+        Answer::Accepted => judge_on(result.tape, plan, multipliers),
+        Answer::Refused(why) => Judged::Refused(why),
+    }
+}
+
+fn judge_on(t: Tape, plan: &[i32], multipliers: &[i32]) -> Judged
+    requires { ⌜ Legal t ⌝ }
+    ensures { λ r. ⌜ r ≡ judgedOn t (now (plan .entry)) (now (multipliers .entry)) ⌝ }
+{
+    let n = t.n;
+    let m = t.m;
+    let horizon = t.horizon;
+    if plan.len() != horizon * (n + m) {
+        return Judged::Refused(Refusal::Length);
+    }
+    if multipliers.len() != horizon * n {
+        return Judged::Refused(Refusal::Length);
+    }
+    if is_any_outside(multipliers) {
+        return Judged::Refused(Refusal::Multiplier);
+    }
+    let y = padded_multipliers(multipliers, n, horizon);
+    let terms = terms_of(t);
+    let walk = checked_plan(t, terms, plan);
+    let v = walk.plan;
+    let check = walk.check;
+    match check {
+        Check::Passed => judge_gap(t, terms, v, y),
+        Check::Refused(why) => Judged::Refused(why),
+    }
+}
+
+// The gap of a plan that follows the tape, held against T.
+fn judge_gap(t: Tape, terms: Terms, v: [i64; 120], y: [i64; 72]) -> Judged
+    requires { ⌜ Legal t × TermsOf t (terms .penalty) (terms .low) (terms .high) (terms .reference) ⌝ }
+    requires { ⌜ Bounded 20000 v × BlankPlan (t .n) (t .m) v × Bounded 16777216 y × BlankMultipliers (t .n) y ⌝ }
+    ensures { λ r. ⌜ r ≡ gapWithin t (planCost (problemOf t) (paddedPlan v) -ℤ floor (problemOf t) (padded y)) ⌝ }
+{
+    let horizon = t.horizon;
+    let cost = plan_cost(
+        &terms.penalty,
+        &terms.low,
+        &terms.high,
+        &terms.reference,
+        &v,
+        horizon,
+    );
+    let floor = floor_of(
+        &t.a,
+        &t.b,
+        &t.drift,
+        &t.start,
+        &terms.penalty,
+        &terms.low,
+        &terms.high,
+        &terms.reference,
+        &y,
+        horizon,
+    );
+    let gap = cost - floor;
+    if t.wanted < gap {
+        return Judged::Refused(Refusal::Wide);
+    }
+    Judged::Gap(gap)
+}
+
+// Judges multipliers for impossibility.
+pub fn judge_multipliers(tape: &[u8], multipliers: &[i32]) -> Shown
+    ensures { λ r. ⌜ r ≡ shown (now (tape .entry)) (now (multipliers .entry)) ⌝ }
+    ensures { λ r. ⌜ Founded r (reading (now (tape .entry)) .tape) ⌝ }
+{
+    let result = read(tape);
+    let answer = result.answer;
+    match answer {
+        Answer::Accepted => show_on(result.tape, multipliers),
+        Answer::Refused(why) => Shown::Refused(why),
+    }
+}
+
+fn show_on(t: Tape, multipliers: &[i32]) -> Shown
+    requires { ⌜ Legal t ⌝ }
+    ensures { λ r. ⌜ r ≡ shownOn t (now (multipliers .entry)) ⌝ }
+{
+    let n = t.n;
+    let horizon = t.horizon;
+    if multipliers.len() != horizon * n {
+        return Shown::Refused(Refusal::Length);
+    }
+    if is_any_outside(multipliers) {
+        return Shown::Refused(Refusal::Multiplier);
+    }
+    let y = padded_multipliers(multipliers, n, horizon);
+    let terms = terms_of(t);
+    show_floor(t, terms, y)
+}
+
+// The floor, held against the ceiling.
+fn show_floor(t: Tape, terms: Terms, y: [i64; 72]) -> Shown
+    requires { ⌜ Legal t × TermsOf t (terms .penalty) (terms .low) (terms .high) (terms .reference) ⌝ }
+    requires { ⌜ Bounded 16777216 y × BlankMultipliers (t .n) y ⌝ }
+    ensures { λ r. ⌜ r ≡ floorAbove t (floor (problemOf t) (padded y)) ⌝ }
+{
+    let horizon = t.horizon;
+    let ceiling = ceiling_of(
+        &terms.penalty,
+        &terms.low,
+        &terms.high,
+        &terms.reference,
+        horizon,
+    );
+    let floor = floor_of(
+        &t.a,
+        &t.b,
+        &t.drift,
+        &t.start,
+        &terms.penalty,
+        &terms.low,
+        &terms.high,
+        &terms.reference,
+        &y,
+        horizon,
+    );
+    if ceiling < floor {
+        return Shown::Shown;
+    }
+    Shown::Refused(Refusal::NotShown)
+}

@@ -1,0 +1,78 @@
+// Judges the cases on standard input and writes the answers.
+use cases::Case;
+use cases::refused;
+use judge::Judged;
+use judge::Shown;
+use judge::judge_multipliers;
+use judge::judge_plan;
+
+fn main() {
+    let mut text = io::large_buffer();
+    let n = io::read_full(0, &mut text);
+    run(&text[..n]);
+}
+
+fn run(text: &[u8]) {
+    let mut case = Case::new();
+    let mut at: usize = 0;
+    while at < text.len() {
+        let c = text[at];
+        if c == b'\n' {
+            judge(case.closed());
+            case = Case::new();
+        } else {
+            case = case.next(c);
+        }
+        at += 1;
+    }
+}
+
+fn judge(case: Case) {
+    let kind = case.kind;
+    let tape = case.tape;
+    let bytes = case.digits / 2;
+    let first = case.first;
+    let second = case.second;
+    let counts = case.counts;
+    match kind {
+        b'j' => show_judged(&tape, bytes, &first, counts[0], &second, counts[1]),
+        b'h' => show_shown(&tape, bytes, &first, counts[0]),
+        _ => {}
+    }
+}
+
+fn show_judged(tape: &[u8], bytes: usize, plan: &[i32], p: usize, multipliers: &[i32], q: usize) {
+    if tape.len() < bytes {
+        return;
+    }
+    if plan.len() < p {
+        return;
+    }
+    if multipliers.len() < q {
+        return;
+    }
+    let judged = judge_plan(&tape[..bytes], &plan[..p], &multipliers[..q]);
+    match judged {
+        Judged::Gap(gap) => {
+            print::word(b"gap");
+            print::number(gap);
+        }
+        Judged::Refused(why) => refused(why),
+    }
+    print::end();
+}
+
+fn show_shown(tape: &[u8], bytes: usize, multipliers: &[i32], q: usize) {
+    if tape.len() < bytes {
+        return;
+    }
+    if multipliers.len() < q {
+        return;
+    }
+    let shown = judge_multipliers(&tape[..bytes], &multipliers[..q]);
+    match shown {
+        Shown::Shown => print::word(b"shown"),
+        Shown::Refused(why) => refused(why),
+    }
+    print::end();
+}

@@ -84,13 +84,17 @@ module _ (t : Tape) (ok : Legal t) (plan y : List ℤ) where
       (λ _. backed-check (planCheck (problemOf t) v) refl
       (eqb-true _ _ (not-false _ (none (wrongPlanLength t plan) (wrongMultipliersLength t y ∷ []) e .0)))))
 
-  founded-on : Founded (shownOn t y) t
-  unfolding shownOn floorAbove
-  founded-on =
-      by-test (λ j. Founded j t) (wrongMultipliersLength t y) (λ _. tt)
-      (λ _. by-test (λ j. Founded j t) (wrongMultipliers y) (λ _. tt)
-      (λ _. by-test (λ j. Founded j t) (ltZ (ceiling (problemOf t)) (floor (problemOf t) (multipliersOf (t .n) y)))
-      (λ e. record { none = λ rival r. impossible t ok y rival (omega (arith, order)) r }) (λ _. tt)))
+-- ---- Judging multipliers
+
+founded-on : (t : Tape) (ok : Legal t) (y : List ℤ) → Founded (shownOn t y) t
+unfolding shownOn floorAbove
+founded-on t ok y =
+    by-test (λ j. Founded j t) (wrongMultipliersLength t y) (λ _. tt)
+    (λ _. by-test (λ j. Founded j t) (wrongMultipliers y) (λ _. tt)
+    (λ _. by-test (λ j. Founded j t) (ltZ (ceiling (problemOf t)) (floor (problemOf t) (multipliersOf (t .n) y)))
+    (λ e. record { none = λ rival r. impossible t ok y rival (omega (arith, order)) r }) (λ _. tt)))
+
+-- ---- The answers of the calls
 
 pub backed : (s : List ℕ) (plan y : List ℤ) → Bytes s → Backed (judging.judged s plan y) (reading s .tape) plan
 unfolding judging.judged
@@ -105,7 +109,7 @@ unfolding judging.shown
 founded s y b = go (reading s .answer) refl
   where
     go : (a : Answer) → reading s .answer ≡ a → Founded (shownAfterRead a (shownOn (reading s .tape) y)) (reading s .tape)
-    go answer.Accepted e = founded-on (reading s .tape) (legal s b e) y y
+    go answer.Accepted e = founded-on (reading s .tape) (legal s b e) y
     go (answer.Refused why) e = tt
 
 -- both clauses of a judge's promise from the first

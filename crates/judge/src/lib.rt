@@ -1,6 +1,6 @@
 // Judging a plan with multipliers, and multipliers for impossibility.
 mod lent;
-pub mod walk;
+mod walk;
 
 ghost use mathlib.Core.Path.{_≡_};
 ghost use lib.ListN.{length};

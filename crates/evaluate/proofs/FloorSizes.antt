@@ -1,18 +1,21 @@
--- How large a plan's cost and the floor are.
+-- How large a plan's cost and the floor are, and the floor as the code forms it.
 use Prim.Native.Nat.{ℕ, _+_, _*_, _<_, _≤_}
+use mathlib.Core.Path.{_≡_, _∙_}
 use mathlib.Core.List.{List, []}
 use native.Mathlib.Omega.{arith}
 use native.Mathlib.Nat.{le-trans, mul-le-mul-right}
 use lib.IntN.{ℤ, pos, natAbs, _+ℤ_, _-ℤ_, _*ℤ_}
-use Rattle.integer.specs.Places.{at, Bounded}
+use Rattle.integer.specs.Places.{at, Bounded, Steps}
 use Rattle.integer.specs.Sum.{sum}
 use Rattle.integer.proofs.Ring.{ring, _⊕_, _⊖_, _≐_}
-use Rattle.integer.proofs.Sizes.{size-add}
+use Rattle.integer.proofs.Sizes.{size-add, Formed, formed}
 use Rattle.integer.proofs.Sum.{size-sum}
 use Rattle.problem.specs.Cost.{total, cost, planCost}
-use Rattle.problem.specs.Dual.{pieces, constant, sizes, floor}
-use Rattle.evaluate.specs.Padded.{padded, paddedPlan, termAt, paddedProblem}
+use Rattle.problem.specs.Model.{Problem}
+use Rattle.problem.specs.Dual.{inputSlope, stateSlope, piece, pieces, constant, sizes, floor}
+use Rattle.evaluate.specs.Padded.{stateMatrix, inputMatrix, padded, paddedPlan, byPlace, termAt, paddedProblem}
 use Rattle.evaluate.specs.Ranges.{Tables}
+use Rattle.evaluate.proofs.Places.{pieces-places}
 use Rattle.evaluate.proofs.LinearSizes.{size-inputSlope, size-stateSlope, size-offset}
 use Rattle.evaluate.proofs.TermSizes.{near, size-cost, size-piece}
 
@@ -34,14 +37,31 @@ module _ {penalty low high reference : List ℤ} (tables : Tables penalty low hi
       one : (p : ℕ) → p < 120 → natAbs (cost (termAt penalty low high reference p) (at v p)) ≤ 1671168000000000
       one p h = size-cost (near (tables .each p h) (at v p) (b .each p))
 
-  pub size-floor : {a b drift start y : List ℤ} → Bounded 16384 a → Bounded 16384 b → Bounded 16777216 drift → Bounded 20000 start → Bounded 16777216 y →
-      natAbs (floor (paddedProblem N a b drift start penalty low high reference) (padded y)) ≤ 4541889529384009728
-  unfolding floor pieces constant
-  size-floor {a} {b} {drift} {start} {y} ha hb hw hs hy =
-      let q = paddedProblem N a b drift start penalty low high reference in
-      rw (← ring 3 (λ p c z. p ⊕ (c ⊖ z) ≐ p ⊕ c ⊖ z) tt (pieces q (padded y)) (constant q (padded y)) (pos 2048 *ℤ sizes 6 N (padded y)))
-      (size-add (pieces q (padded y)) (constant q (padded y) -ℤ pos 2048 *ℤ sizes 6 N (padded y))
-      (size-total N _ _ l
-      (λ k j h m. size-piece (tables .each (10 * k + j) (omega arith)) _ (le-trans (size-inputSlope hb hy k j) (omega arith)))
-      (λ k i h m. size-piece (tables .each (10 * k + (4 + i)) (omega arith)) _ (size-stateSlope ha hy N k i)))
-      (size-offset N l ha hw hs hy))
+  -- the code adds the pieces, from the slopes s, and the constant less the allowance: that is the floor, and it fits
+  module _ {a b drift start y : List ℤ} (ha : Bounded 16384 a) (hb : Bounded 16384 b) (hw : Bounded 16777216 drift) (hs : Bounded 20000 start)
+      (hy : Bounded 16777216 y) where
+    abbrev q : Problem
+    q = paddedProblem N a b drift start penalty low high reference
+
+    abbrev rest : ℤ
+    rest = constant q (padded y) -ℤ pos 2048 *ℤ sizes 6 N (padded y)
+
+    floor-is : pieces q (padded y) +ℤ rest ≡ floor q (padded y)
+    unfolding floor
+    floor-is = ring 3 (λ p c z. p ⊕ (c ⊖ z) ≐ p ⊕ c ⊖ z) tt (pieces q (padded y)) (constant q (padded y)) (pos 2048 *ℤ sizes 6 N (padded y))
+
+    pub size-floor : natAbs (floor q (padded y)) ≤ 4541889529384009728
+    unfolding pieces constant
+    size-floor =
+        rw (← floor-is)
+        (size-add (pieces q (padded y)) rest
+        (size-total N _ _ l
+        (λ k j h m. size-piece (tables .each (10 * k + j) (omega arith)) _ (le-trans (size-inputSlope hb hy k j) (omega arith)))
+        (λ k i h m. size-piece (tables .each (10 * k + (4 + i)) (omega arith)) _ (size-stateSlope ha hy N k i)))
+        (size-offset N l ha hw hs hy))
+
+    pub floor-formed : {s : List ℤ} {p o : ℤ} →
+        Steps 10 N (byPlace (inputSlope 6 (inputMatrix b) (padded y)) (stateSlope 6 N (stateMatrix a) (padded y))) s →
+        p ≡ sum (10 * N) (λ c. piece (termAt penalty low high reference c) (at s c)) → o ≡ rest → Formed (p +ℤ o) (floor q (padded y))
+    floor-formed {s} slopes e d =
+        formed (rw (e ∙ pieces-places N a b drift start penalty low high reference y s slopes, d) floor-is) size-floor (omega arith)

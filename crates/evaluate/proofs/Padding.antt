@@ -2,7 +2,7 @@
 use Prim.Native.Nat.{ℕ, _+_, _<_, _≤_}
 use mathlib.Core.Path.{_≡_, refl, _∙_, ap, ap₂}
 use mathlib.Core.Bool.{Bool, true, false, cond}
-use mathlib.Core.List.{List}
+use mathlib.Core.List.{List, []}
 use mathlib.Core.Logic.{inr}
 use native.Mathlib.Omega.{arith}
 use lib.Dec.{ltb}
@@ -31,10 +31,7 @@ sum-terms : (n N : ℕ) (f : Term → ℤ → ℤ) (r s : ℕ → Term) (v : ℕ
 sum-terms n N f r s v l none same blank zero =
     sum-pad n N _ l (λ j h k. ap₂ f (blank j h k) (zero j h k) ∙ none) ∙ sum-cong n _ _ (λ j h. ap (λ (a : Term). f a (v j)) (same j h))
 
-module _ (t : Tape) (legal : Legal t) (penalty low high reference : List ℤ) (terms : TermsOf t penalty low high reference) where
-  abbrev pub paddedTape : Problem
-  paddedTape = paddedProblem (t .horizon) (t .a) (t .b) (t .drift) (t .start) penalty low high reference
-
+module _ (t : Tape) (legal : Legal t) where
   -- the columns of A and of B beyond the sizes are 0
   pub model-padded : (x u : ℕ → ℤ) (i : ℕ) → modelSum 6 4 (stateMatrix (t .a)) (inputMatrix (t .b)) (at (t .drift)) x u i
       ≡ modelSum (t .n) (t .m) (problemOf t .A) (problemOf t .B) (problemOf t .w) x u i
@@ -43,6 +40,14 @@ module _ (t : Tape) (legal : Legal t) (penalty low high reference : List ℤ) (t
       ap₂ (λ (p q : ℤ). p +ℤ q +ℤ at (t .drift) i)
       (sum-products (t .n) 6 _ x (legal .states .1) (λ j h l. legal .blankA i j l (inr h)))
       (sum-products (t .m) 4 _ u (legal .inputs .1) (λ j h l. legal .blankB i j l (inr h)))
+
+module _ (t : Tape) (legal : Legal t) (penalty low high reference : List ℤ) (terms : TermsOf t penalty low high reference) where
+  abbrev pub paddedTape : Problem
+  paddedTape = paddedProblem (t .horizon) (t .a) (t .b) (t .drift) (t .start) penalty low high reference
+
+  -- the same without the model, which costs and the ceiling do not ask for
+  abbrev pub paddedTerms : Problem
+  paddedTerms = paddedProblem (t .horizon) [] [] [] [] penalty low high reference
 
   -- over a whole plan; for costs, pieces and `most` the first premise holds by computing
   total-terms : (f : Term → ℤ → ℤ) (u x : ℕ → ℕ → ℤ) → f blankTerm (pos 0) ≡ pos 0 →
@@ -58,11 +63,11 @@ module _ (t : Tape) (legal : Legal t) (penalty low high reference : List ℤ) (t
       (sum-terms (t .n) 6 f _ _ (x k) (legal .states .1) none (λ i. terms .state k i l) (λ i. terms .noState k i l) (λ i. hx k i h)))
 
   pub cost-padded : (v : Plan) → ((k j : ℕ) → k < t .horizon → t .m ≤ j → j < 4 → v .u k j ≡ pos 0) →
-      ((k i : ℕ) → k < t .horizon → t .n ≤ i → i < 6 → v .x k i ≡ pos 0) → planCost paddedTape v ≡ planCost (problemOf t) v
+      ((k i : ℕ) → k < t .horizon → t .n ≤ i → i < 6 → v .x k i ≡ pos 0) → planCost paddedTerms v ≡ planCost (problemOf t) v
   unfolding planCost cost
   cost-padded v = total-terms cost (v .u) (v .x) refl
 
-  pub ceiling-padded : ceiling paddedTape ≡ ceiling (problemOf t)
+  pub ceiling-padded : ceiling paddedTerms ≡ ceiling (problemOf t)
   unfolding ceiling most larger
   ceiling-padded = total-terms (λ a _. most a) (λ _ _. pos 0) (λ _ _. pos 0) refl (λ _ _ _ _ _. refl) (λ _ _ _ _ _. refl)
 
@@ -76,21 +81,21 @@ module _ (t : Tape) (legal : Legal t) (penalty low high reference : List ℤ) (t
     products-none : (k : ℕ) (c : ℕ → ℤ) → ((i : ℕ) → c i ≡ pos 0) → sum 6 (λ i. y k i *ℤ c i) ≡ pos 0
     products-none k c zero = sum-zero 6 _ (λ i _. rw (zero i) (*ℤ-zero (y k i)))
 
-    inputSlope-padded : (k j : ℕ) → inputSlope 6 (problemOf t .B) y k j ≡ inputSlope (t .n) (problemOf t .B) y k j
+    pub inputSlope-padded : (k j : ℕ) → inputSlope 6 (problemOf t .B) y k j ≡ inputSlope (t .n) (problemOf t .B) y k j
     unfolding inputSlope
     inputSlope-padded k j = products-padded k (λ i. problemOf t .B i j)
 
-    stateSlope-padded : (k i : ℕ) → stateSlope 6 (t .horizon) (problemOf t .A) y k i ≡ stateSlope (t .n) (t .horizon) (problemOf t .A) y k i
+    pub stateSlope-padded : (k i : ℕ) → stateSlope 6 (t .horizon) (problemOf t .A) y k i ≡ stateSlope (t .n) (t .horizon) (problemOf t .A) y k i
     unfolding stateSlope carried
     stateSlope-padded k i =
         ap (λ (s : ℤ). negsuc 4095 *ℤ y k i +ℤ cond (ltb (k + 1) (t .horizon)) s (pos 0)) (products-padded (k + 1) (λ q. problemOf t .A q i))
 
     -- a number beyond the sizes has slope 0
-    inputSlope-none : (k j : ℕ) → t .m ≤ j → j < 4 → inputSlope 6 (problemOf t .B) y k j ≡ pos 0
+    pub inputSlope-none : (k j : ℕ) → t .m ≤ j → j < 4 → inputSlope 6 (problemOf t .B) y k j ≡ pos 0
     unfolding inputSlope
     inputSlope-none k j h l = products-none k _ (λ i. legal .blankB i j l (inr h))
 
-    stateSlope-none : (k i : ℕ) → t .n ≤ i → i < 6 → stateSlope 6 (t .horizon) (problemOf t .A) y k i ≡ pos 0
+    pub stateSlope-none : (k i : ℕ) → t .n ≤ i → i < 6 → stateSlope 6 (t .horizon) (problemOf t .A) y k i ≡ pos 0
     unfolding stateSlope carried
     stateSlope-none k i h l =
         ap₂ (λ (v s : ℤ). negsuc 4095 *ℤ v +ℤ cond (ltb (k + 1) (t .horizon)) s (pos 0)) (blank k i h l)

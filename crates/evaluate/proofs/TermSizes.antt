@@ -1,6 +1,6 @@
 -- Costs, tilts, pieces and their sums: the size of each, and that no step of the code that forms them passes 64 bits.
 use Prim.Native.Nat.{ℕ, _+_, _*_, _^_, _<_, _≤_}
-use mathlib.Core.Path.{_≡_, refl, subst⁻¹}
+use mathlib.Core.Path.{_≡_, refl, _∙_, ap₂, subst⁻¹}
 use mathlib.Core.List.{List}
 use mathlib.Core.Bool.{Bool, true, false, cond}
 use native.Mathlib.Omega.{arith}
@@ -180,6 +180,12 @@ module _ {penalty low high reference : List ℤ} (t : Tables penalty low high re
 
   pub copied : Ranged (termOf (back (at penalty p)) (back (at low p)) (back (at high p)) (back (at reference p)))
   copied = subst⁻¹ Ranged term-is (t .each p h)
+
+  -- what f gives for a term and a number that were copied out, it gives for those of the tables
+  pub read-back : (f : Term → ℤ → ℤ) {r v w : ℤ} → w ≡ v →
+      r ≡ f (termOf (back (at penalty p)) (back (at low p)) (back (at high p)) (back (at reference p))) w →
+      r ≡ f (termAt penalty low high reference p) v
+  read-back f e k = k ∙ ap₂ f term-is e
 
 pub size-pieces : {penalty low high reference s : List ℤ} (count : ℕ) → count ≤ 120 → Tables penalty low high reference → Bounded slopeSize s →
     natAbs (sum count (λ p. piece (termAt penalty low high reference p) (at s p))) ≤ count * pieceSize

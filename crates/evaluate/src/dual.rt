@@ -48,7 +48,12 @@ fn state_slopes(s: &mut [i64; 120], a: &[i64; 36], y: &[i64; 72], k: usize, hori
 }
 
 // The slope of every plan number.
-pub fn slopes(a: &[i64; 36], b: &[i64; 24], y: &[i64; 72], horizon: usize) -> [i64; 120]
+pub fn slopes<'a>(
+    a: &'a [i64; 36],
+    b: &'a [i64; 24],
+    y: &'a [i64; 72],
+    horizon: usize,
+) -> [i64; 120]
     requires { ⌜ (horizon ≤ 12) × Bounded 16384 (now a) × Bounded 16384 (now b) × Bounded 16777216 (now y) ⌝ }
     ensures { λ r. ⌜ Steps 10 horizon (byPlace (inputSlope 6 (inputMatrix (now (b .entry))) (padded (now (y .entry))))
         (stateSlope 6 horizon (stateMatrix (now (a .entry))) (padded (now (y .entry))))) r ⌝ }

@@ -12,10 +12,10 @@ pub fn quotient(x: i64, d: i64) -> i64
     requires { ⌜ pos 1 ≼ d ⌝ }
     ensures { λ r. ⌜ r ≡ x ÷ d ⌝ }
 {
-    if x < 0 {
-        return -1 - (-1 - x) / d;
+    if 0 <= x {
+        return x / d;
     }
-    x / d
+    -1 - (-1 - x) / d
 }
 
 // x limited to lo to hi.

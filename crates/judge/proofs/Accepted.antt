@@ -1,11 +1,10 @@
 -- Demand 3 over the definitions: what the judges answer is backed.
 use Prim.Native.Nat.{ℕ, _+_, _*_, _<_}
-use mathlib.Core.Path.{_≡_, refl}
-use mathlib.Core.Bool.{not, _||_}
+use mathlib.Core.Path.{_≡_, refl, ap₂}
+use mathlib.Core.Bool.{_||_}
 use mathlib.Core.List.{List, [], _∷_}
 use native.Mathlib.Omega.{arith}
 use borrow.Author.Tests.{eqb-true, not-false}
-use lib.Dec.{eqb}
 use lib.ListN.{length}
 use lib.IntN.{ℤ, _-ℤ_}
 use lib.Signed.{ltZ}
@@ -17,7 +16,7 @@ use Rattle.tape.specs.declared.Tape.{Tape}
 use Rattle.tape.specs.Format.{outside}
 use Rattle.tape.specs.Legal.{Legal}
 use Rattle.tape.specs.Reading.{reading}
-use Rattle.tape.proofs.Tests.{by-test, none, in-range}
+use Rattle.tape.proofs.Tests.{by-test, none, in-range, not-outside}
 use Rattle.tape.proofs.Facts.{legal}
 use Rattle.problem.specs.Model.{Problem, Plan, problemOf, planOf, multipliersOf, sumAt, rounded}
 use Rattle.problem.specs.Cost.{Follows, planCost}
@@ -27,17 +26,21 @@ use Rattle.judge.specs.declared.Judged.{Judged}
 use Rattle.judge.specs.declared.Shown.{Shown}
 use Rattle.judge.specs.declared.walk.Check.{Check}
 use Rattle.judge.specs.declared.walk.Check.the-variants.{Passed, Refused}
-use Rattle.judge.specs.Checks.{first, limits, meets, stateCheck, stepCheck, planCheck, wrongMultipliers}
+use Rattle.judge.specs.Checks.{orElse, first, limits, meets, stateCheck, stepCheck, planCheck, wrongMultipliers}
 use Rattle.judge.specs.Judging.{wrongPlanLength, wrongMultipliersLength, gapWithin, afterCheck, judgedOn, afterRead, floorAbove, shownOn, shownAfterRead}
 use Rattle.judge.specs.Judging as judging
 use Rattle.judge.specs.Demand.{Backed, Founded}
-use Rattle.judge.proofs.Steps.{both-passed, passed-test, first-each, limits-within}
+use Rattle.judge.proofs.Steps.{both-passed, passed-test, first-each, first-all, limits-within, within-limits}
 
 -- ---- A plan that passed follows the tape
 
 meets-model : (S v : ℤ) → meets S v ≡ Passed → v ≡ rounded S
 unfolding meets
 meets-model S v e = let h = in-range (rounded S) (rounded S) v (passed-test (outside (rounded S) (rounded S) v) _ e) in omega (arith, order)
+
+model-meets : (S v : ℤ) → v ≡ rounded S → meets S v ≡ Passed
+unfolding meets
+model-meets S v e = rw (not-outside (rounded S) (rounded S) v (omega (arith, order), omega (arith, order)))
 
 module _ (q : Problem) (v : Plan) where
   abbrev inputCheck : ℕ → ℕ → Check
@@ -59,6 +62,15 @@ module _ (q : Problem) (v : Plan) where
 
       state : (k i : ℕ) → k < q .horizon → i < q .n → (meets (sumAt q v k i) (v .x k i) ≡ Passed) × (limits (q .stateTerm k i .low) (q .stateTerm k i .high) (v .x k i) ≡ Passed)
       state k i h l = both-passed _ _ (first-each (q .n) (stateCheckAt k) (step k h .1) i l)
+
+  -- and a plan that follows the tape passes
+  pub passes : Follows q v → planCheck q v ≡ Passed
+  unfolding planCheck stepCheck stateCheck
+  passes f =
+      first-all (q .horizon) (stepCheck q v)
+      (λ k h. ap₂ orElse (first-all (q .m) (inputCheck k) (λ j l. within-limits _ _ (v .u k j) (f .inputs-within k j h l)))
+      (first-all (q .n) (stateCheckAt k)
+      (λ i l. ap₂ orElse (model-meets (sumAt q v k i) (v .x k i) (f .states-meet k i h l)) (within-limits _ _ (v .x k i) (f .states-within k i h l)))))
 
 -- ---- Judging a plan
 

@@ -9,7 +9,7 @@ use mir.Syntax.{w64}
 use mir.Val.{Fits}
 use Rattle.tape.specs.declared.Tape.{Tape}
 use Rattle.tape.specs.Legal.{Legal}
-use Rattle.problem.specs.Model.{problemOf, planOf, multipliersOf}
+use Rattle.problem.specs.Model.{Plan, problemOf}
 use Rattle.problem.specs.Cost.{planCost}
 use Rattle.problem.specs.Dual.{floor}
 use Rattle.problem.proofs.Congruence.{floor-cong, cost-cong}
@@ -20,9 +20,8 @@ pub count-fits : (N w : ℕ) → N ≤ 12 → w ≤ 10 → Fits w64 (N * w)
 count-fits N w h k = omega (arith, mul-le-mul h k)
 
 module _ (t : Tape) (legal : Legal t) where
-  pub floor-held : {l y : List ℤ} → HeldMultipliers (t .n) (t .horizon) l y → floor (problemOf t) (padded y) ≡ floor (problemOf t) (multipliersOf (t .n) l)
-  floor-held {l} {y} h = floor-cong (problemOf t) (padded y) (multipliersOf (t .n) l) (legal .steps .0) (h .same)
+  pub floor-held : {y : ℕ → ℕ → ℤ} {l : List ℤ} → HeldMultipliers (t .n) (t .horizon) y l → floor (problemOf t) (padded l) ≡ floor (problemOf t) y
+  floor-held {y} {l} h = floor-cong (problemOf t) (padded l) y (legal .steps .0) (h .same)
 
-  pub cost-held : {l v : List ℤ} → HeldPlan (t .n) (t .m) (t .horizon) l v →
-      planCost (problemOf t) (paddedPlan v) ≡ planCost (problemOf t) (planOf (t .n) (t .m) l)
-  cost-held {l} {v} h = cost-cong (problemOf t) (paddedPlan v) (planOf (t .n) (t .m) l) (h .input) (h .state)
+  pub cost-held : {v : Plan} {l : List ℤ} → HeldPlan (t .n) (t .m) (t .horizon) v l → planCost (problemOf t) (paddedPlan l) ≡ planCost (problemOf t) v
+  cost-held {v} {l} h = cost-cong (problemOf t) (paddedPlan l) v (h .input) (h .state)

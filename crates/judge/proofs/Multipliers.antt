@@ -8,12 +8,13 @@ use native.Mathlib.Numerals.{add-one}
 use native.Mathlib.Omega.{arith}
 use lib.Dec.{ltb}
 use lib.ListN.{length}
-use lib.IntN.{ℤ, pos, natAbs}
+use lib.IntN.{ℤ, pos, negsuc, natAbs}
 use borrow.Author.Tests.{ltb-true, ltb-false, lt-ltb, le-ltb}
 use Rattle.integer.specs.Places.{at, Bounded, Stretch, Steps}
+use Rattle.integer.proofs.Sizes.{size-low, size-high}
 use Rattle.integer.proofs.Places.{lt-or-le, all-bounded, steps-bounded}
 use Rattle.tape.specs.Format.{outside}
-use Rattle.tape.proofs.Tests.{in-size, by-test, none}
+use Rattle.tape.proofs.Tests.{in-size, not-outside, by-test, none}
 use Rattle.problem.specs.Model.{multipliersOf}
 use Rattle.judge.specs.Checks.{any, wrongMultipliers}
 use Rattle.judge.specs.Held.{HeldMultipliers}
@@ -30,15 +31,24 @@ pub any-more : (count : ℕ) (f : ℕ → Bool) → any count f ≡ false → f 
 unfolding any
 any-more count f e h = rw (add-one count, e, h)
 
-any-none : (count p : ℕ) (f : ℕ → Bool) → p < count → any count f ≡ false → f p ≡ false
+pub any-none : (count p : ℕ) (f : ℕ → Bool) → p < count → any count f ≡ false → f p ≡ false
 unfolding any
 any-none zero p f h e = let z : ⊥ = omega arith in absurd z
 any-none (suc count) p f h e =
     let o = none (any count f) (f count ∷ []) e in
     ⊎-elim (λ l. any-none count p f l (o .0)) (λ l. let z : p ≡ count = omega arith in rw z (o .1 .0)) (lt-or-le p count)
 
-multipliers-bounded : (l : List ℤ) → wrongMultipliers l ≡ false → Bounded 16777216 l
+pub any-all : (count : ℕ) (f : ℕ → Bool) → ((p : ℕ) → p < count → f p ≡ false) → any count f ≡ false
+unfolding any
+any-all zero f h = refl
+any-all (suc count) f h = rw (any-all count f (λ p l. h p (omega arith)), h count (omega arith))
+
+pub multipliers-bounded : (l : List ℤ) → wrongMultipliers l ≡ false → Bounded 16777216 l
 multipliers-bounded l e = all-bounded l (length l) refl (λ p h. in-size 16777216 (at l p) (any-none (length l) p _ h e))
+
+pub bounded-multipliers : (l : List ℤ) → Bounded 16777216 l → wrongMultipliers l ≡ false
+bounded-multipliers l b =
+    any-all (length l) _ (λ p h. not-outside (negsuc 16777215) (pos 16777216) (at l p) (size-low (at l p) (b .each p), size-high (at l p) (b .each p)))
 
 -- ---- Padded places
 
@@ -58,7 +68,7 @@ stretch-upTo o n w f old new h blank s = record {
   same = s .same;
 }
 
-pub held : (n N : ℕ) (l y : List ℤ) → n ≤ 6 → wrongMultipliers l ≡ false → Steps 6 N (λ k. upTo n (multipliersOf n l k)) y → HeldMultipliers n N l y
+pub held : (n N : ℕ) (l y : List ℤ) → n ≤ 6 → wrongMultipliers l ≡ false → Steps 6 N (λ k. upTo n (multipliersOf n l k)) y → HeldMultipliers n N (multipliersOf n l) y
 unfolding upTo
 held n N l y h e s = record {
   same = λ k i a b. s .each k i a (omega arith) ∙ rw (lt-ltb i n b);

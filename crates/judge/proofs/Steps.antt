@@ -17,8 +17,8 @@ use Rattle.tape.specs.declared.Tape.{Tape}
 use Rattle.tape.specs.declared.refusal.Refusal.{Refusal}
 use Rattle.tape.specs.Format.{outside}
 use Rattle.tape.specs.Legal.{Legal}
-use Rattle.tape.proofs.Tests.{in-range}
-use Rattle.problem.specs.Model.{Term, problemOf, planOf, stateAt, modelSum, sumAt}
+use Rattle.tape.proofs.Tests.{in-range, not-outside}
+use Rattle.problem.specs.Model.{Term, Plan, problemOf, planOf, stateAt, modelSum, sumAt}
 use Rattle.problem.proofs.Congruence.{model-cong}
 use Rattle.evaluate.specs.Padded.{stateMatrix, inputMatrix, paddedPlan}
 use Rattle.evaluate.specs.Terms.{TermsOf}
@@ -27,7 +27,7 @@ use Rattle.evaluate.proofs.Padding.{model-padded}
 use Rattle.judge.specs.declared.walk.Check.{Check}
 use Rattle.judge.specs.declared.walk.Check.the-variants.{Passed, Refused}
 use Rattle.judge.specs.Checks.{orElse, first, limits, meets, stateCheck, stepCheck}
-use Rattle.judge.specs.Held.{HeldPlan, Filled, HeldWhere}
+use Rattle.judge.specs.Held.{BlankPlan, HeldPlan, Filled, HeldWhere}
 
 -- ---- The first refusal
 
@@ -62,6 +62,11 @@ first-each (suc n) f e j h =
     let b = both-passed (first n f) (f n) e in
     ⊎-elim (λ l. first-each n f (b .0) j l) (λ l. let q : j ≡ n = omega arith in rw q (b .1)) (lt-or-le j n)
 
+pub first-all : (n : ℕ) (f : ℕ → Check) → ((j : ℕ) → j < n → f j ≡ Passed) → first n f ≡ Passed
+unfolding first
+first-all zero f h = refl
+first-all (suc n) f h = ap₂ orElse (first-all n f (λ j l. h j (omega arith))) (h n (omega arith))
+
 -- a test that refuses has failed
 pub passed-test : (test : Bool) (why : Refusal) → cond test (Refused why) Passed ≡ Passed → test ≡ false
 passed-test true why e = let z : _≡_ {A = ℕ} 0 1 = cc in absurd (omega arith)
@@ -73,8 +78,16 @@ pub limits-within : (lo hi v : ℤ) → limits lo hi v ≡ Passed → (lo ≼ v)
 unfolding limits
 limits-within lo hi v e = in-range lo hi v (passed-test (outside lo hi v) _ e)
 
+pub range-size : (lo hi v : ℤ) {B : ℕ} → natAbs lo ≤ B → natAbs hi ≤ B → outside lo hi v ≡ false → natAbs v ≤ B
+range-size lo hi v l h e = let w = in-range lo hi v e in omega (arith, order, size-parts lo, size-parts hi, size-parts v)
+
+pub within-limits : (lo hi v : ℤ) → (lo ≼ v) × (v ≼ hi) → limits lo hi v ≡ Passed
+unfolding limits
+within-limits lo hi v h = rw (not-outside lo hi v h)
+
 limits-size : (lo hi v : ℤ) {B : ℕ} → natAbs lo ≤ B → natAbs hi ≤ B → limits lo hi v ≡ Passed → natAbs v ≤ B
-limits-size lo hi v l h e = let w = limits-within lo hi v e in omega (arith, order, size-parts lo, size-parts hi, size-parts v)
+unfolding limits
+limits-size lo hi v l h e = range-size lo hi v l h (passed-test (outside lo hi v) _ e)
 
 pub state-size : (S lo hi v : ℤ) {B : ℕ} → natAbs lo ≤ B → natAbs hi ≤ B → stateCheck S lo hi v ≡ Passed → natAbs v ≤ B
 unfolding stateCheck
@@ -108,11 +121,14 @@ stretch-bounded {B} {o} {w} {f} {old} {new} b h s = record { each = λ p. go p (
     go p (inr l) (inr k) = rw (s .outside p (inr k)) (b .each p)
     go p (inr l) (inl k) = let e : p ≡ o + (p - o) = omega arith in rw (e, s .inside (p - o) (omega arith)) (h (p - o) (omega arith))
 
-stretch-beside : {o w : ℕ} {f : ℕ → ℤ} {old new : List ℤ} → Stretch o w f old new → (p : ℕ) → (o ≤ p → o + w ≤ p) → at new p ≡ at old p
+pub stretch-cong : {o w : ℕ} {f g : ℕ → ℤ} {old new : List ℤ} → Stretch o w f old new → ((j : ℕ) → j < w → f j ≡ g j) → Stretch o w g old new
+stretch-cong s e = record { inside = λ j h. s .inside j h ∙ e j h; outside = s .outside; same = s .same }
+
+pub stretch-beside : {o w : ℕ} {f : ℕ → ℤ} {old new : List ℤ} → Stretch o w f old new → (p : ℕ) → (o ≤ p → o + w ≤ p) → at new p ≡ at old p
 stretch-beside {o} s p h = ⊎-elim (λ l. s .outside p (inl l)) (λ l. s .outside p (inr (h l))) (lt-or-le p o)
 
 -- the states before step k are the start's, or those of the step before
-states-before : {f g : ℕ → ℕ → ℤ} (start : ℕ → ℤ) (k n : ℕ) → ((q i : ℕ) → q < k → i < n → f q i ≡ g q i) →
+pub states-before : {f g : ℕ → ℕ → ℤ} (start : ℕ → ℤ) (k n : ℕ) → ((q i : ℕ) → q < k → i < n → f q i ≡ g q i) →
     (i : ℕ) → i < n → stateAt start f k i ≡ stateAt start g k i
 unfolding stateAt
 states-before start zero n h i l = refl
@@ -126,27 +142,31 @@ model-kept a b drift start k i w s =
     (states-before (at start) k 6 (λ q j h l. s .outside (10 * q + (4 + j)) (inl (omega arith))))
     (λ j h. s .outside (10 * k + j) (inl (omega arith)))
 
--- ---- A step of the plan l, of which v holds the steps before: its inputs are stored in w, then its states in z
+-- ---- A step of the plan p, of which v holds the steps before: its inputs are stored in w, then its states in z
 
-pub held-none : (n m : ℕ) (l : List ℤ) → HeldPlan n m 0 l (replicate 120 (pos 0))
-held-none n m l = record {
+-- no step yet
+pub held-start : {n m : ℕ} {v : Plan} {l : List ℤ} → BlankPlan n m l → Bounded 20000 l → length l ≡ 120 → HeldPlan n m 0 v l
+held-start blank bounded long = record {
   input = λ q j h. let z : ⊥ = omega arith in absurd z;
   state = λ q i h. let z : ⊥ = omega arith in absurd z;
-  blank = record { input = λ q j _ _ _. zeros 120 (10 * q + j); state = λ q i _ _ _. zeros 120 (10 * q + (4 + i)) };
-  bounded = record { each = λ p. rw (zeros 120 p) (omega arith) };
-  long = length-replicate 120 (pos 0);
+  blank = blank;
+  bounded = bounded;
+  long = long;
 }
 
-module _ {n m k : ℕ} {l v w : List ℤ} (few : (n ≤ 6) × (m ≤ 4)) (held : HeldPlan n m k l v)
-    (inputs : Stretch (10 * k) m (planOf n m l .u k) v w) where
-  model-held : (A B : ℕ → ℕ → ℤ) (drift start : ℕ → ℤ) (i : ℕ) →
-      modelSum n m A B drift (stateAt start (paddedPlan w .x) k) (paddedPlan w .u k) i
-      ≡ modelSum n m A B drift (stateAt start (planOf n m l .x) k) (planOf n m l .u k) i
+pub held-none : (n m : ℕ) (v : Plan) → HeldPlan n m 0 v (replicate 120 (pos 0))
+held-none n m v =
+    held-start (record { input = λ q j _ _ _. zeros 120 (10 * q + j); state = λ q i _ _ _. zeros 120 (10 * q + (4 + i)) })
+    (record { each = λ p. rw (zeros 120 p) (omega arith) }) (length-replicate 120 (pos 0))
+
+module _ {n m k : ℕ} {p : Plan} {v w : List ℤ} (few : (n ≤ 6) × (m ≤ 4)) (held : HeldPlan n m k p v) (inputs : Stretch (10 * k) m (p .u k) v w) where
+  pub model-held : (A B : ℕ → ℕ → ℤ) (drift start : ℕ → ℤ) (i : ℕ) →
+      modelSum n m A B drift (stateAt start (paddedPlan w .x) k) (paddedPlan w .u k) i ≡ modelSum n m A B drift (stateAt start (p .x) k) (p .u k) i
   model-held A B drift start i =
       model-cong n m A B drift _ _ _ _ i
       (states-before start k n (λ q j h b. inputs .outside (10 * q + (4 + j)) (inl (omega arith)) ∙ held .state q j h b)) (inputs .inside)
 
-  held-next : {z : List ℤ} → Stretch (10 * k + 4) n (λ i. at l (k * (n + m) + m + i)) w z → Bounded 20000 z → HeldPlan n m (k + 1) l z
+  pub held-next : {z : List ℤ} → Stretch (10 * k + 4) n (p .x k) w z → Bounded 20000 z → HeldPlan n m (k + 1) p z
   held-next {z} states bounded = record {
     input = λ q j h b.
         ⊎-elim (λ a. kept (10 * q + j) (λ c. omega arith) (λ c. omega arith) ∙ held .input q j a b)
@@ -155,8 +175,7 @@ module _ {n m k : ℕ} {l v w : List ℤ} (few : (n ≤ 6) × (m ≤ 4)) (held :
         ⊎-elim (λ a. kept (10 * q + (4 + i)) (λ c. omega arith) (λ c. omega arith) ∙ held .state q i a b)
         (λ a. let e : q ≡ k = omega arith in
         let d : 10 * k + (4 + i) ≡ 10 * k + 4 + i = omega arith in
-        let f : k * (n + m) + m + i ≡ k * (n + m) + (m + i) = omega arith in
-        rw e (ap (at z) d ∙ states .inside i b ∙ ap (at l) f)) (lt-or-le q k);
+        rw e (ap (at z) d ∙ states .inside i b)) (lt-or-le q k);
     blank = record {
       input = λ q j h a b. kept (10 * q + j) (λ c. omega arith) (λ c. omega arith) ∙ held .blank .input q j h a b;
       state = λ q i h a b. kept (10 * q + (4 + i)) (λ c. omega arith) (λ c. omega arith) ∙ held .blank .state q i h a b;
@@ -181,7 +200,7 @@ module _ {t : Tape} {penalty low high reference : List ℤ} (legal : Legal t) (t
   step-refused e = ap₂ orElse (inputs-checked ∙ e) refl
 
   -- once the inputs have passed
-  module _ {v w : List ℤ} (held : HeldPlan (t .n) (t .m) k l v) (passed : inputsCheck t low high l k ≡ Passed)
+  module _ {v w : List ℤ} (held : HeldPlan (t .n) (t .m) k (planOf (t .n) (t .m) l) v) (passed : inputsCheck t low high l k ≡ Passed)
       (inputs : Stretch (10 * k) (t .m) (planOf (t .n) (t .m) l .u k) v w) where
     pub inputs-bounded : Bounded 20000 w
     inputs-bounded =
@@ -199,7 +218,7 @@ module _ {t : Tape} {penalty low high reference : List ℤ} (legal : Legal t) (t
         rw e
         (sym
         (ap₂ (λ (S : ℤ) (a : Term). stateCheck S (a .low) (a .high) (planOf (t .n) (t .m) l .x k i))
-        (model-padded t legal penalty low high reference terms _ _ i ∙ model-held (legal .states .1, legal .inputs .1) held inputs _ _ _ _ i)
+        (model-padded t legal _ _ i ∙ model-held (legal .states .1, legal .inputs .1) held inputs _ _ _ _ i)
         (terms .state k i early h)))
 
     pub step-states : stepCheck (problemOf t) (planOf (t .n) (t .m) l) k ≡ statesCheck t low high l w k
@@ -207,9 +226,10 @@ module _ {t : Tape} {penalty low high reference : List ℤ} (legal : Legal t) (t
     step-states = ap₂ orElse (inputs-checked ∙ passed) (first-cong (t .n) _ _ state-checked)
 
     pub held-where : (z : List ℤ) (r : Check) → r ≡ statesCheck t low high l w k →
-        Filled r (10 * k + 4) (t .n) (λ i. at l (k * (t .n + t .m) + t .m + i)) w z → HeldWhere r (t .n) (t .m) (k + 1) l z
+        Filled r (10 * k + 4) (t .n) (λ i. at l (k * (t .n + t .m) + t .m + i)) w z → HeldWhere r (t .n) (t .m) (k + 1) (planOf (t .n) (t .m) l) z
     held-where z Passed e states =
-        held-next (legal .states .1, legal .inputs .1) held inputs states
+        held-next (legal .states .1, legal .inputs .1) held inputs
+        (stretch-cong states (λ i h. let e : k * (t .n + t .m) + t .m + i ≡ k * (t .n + t .m) + (t .m + i) = omega arith in ap (at l) e))
         (stretch-bounded inputs-bounded
         (λ i h. let p = 10 * k + (4 + i) in
         let g = terms .tables .each p (omega arith) in

@@ -4,6 +4,7 @@ ghost use mathlib.Core.Path.{_≡_};
 ghost use mathlib.Core.Bool.{false};
 ghost use lib.ListN.{length};
 ghost use Rattle.integer.specs.Places.{at, Stretch};
+ghost use Rattle.problem.specs.Model.{multipliersOf};
 ghost use Rattle.judge.specs.Checks.{wrongMultipliers};
 ghost use Rattle.judge.specs.Held.{HeldMultipliers};
 use tape::is_outside;
@@ -37,7 +38,7 @@ fn pad_step(y: &mut [i64; 72], multipliers: &[i32], from: usize, n: usize, k: us
 // Multipliers in range, at padded places.
 pub fn padded_multipliers(multipliers: &[i32], n: usize, horizon: usize) -> [i64; 72]
     requires { ⌜ (n ≤ 6) × (horizon ≤ 12) × (length (now multipliers) ≡ horizon * n) × (wrongMultipliers (now multipliers) ≡ false) ⌝ }
-    ensures { λ r. ⌜ HeldMultipliers n horizon (now (multipliers .entry)) r ⌝ }
+    ensures { λ r. ⌜ HeldMultipliers n horizon (multipliersOf n (now (multipliers .entry))) r ⌝ }
 {
     let mut y = [0i64; 72];
     let mut from: usize = 0;

@@ -3,7 +3,6 @@ mod lent;
 mod walk;
 
 ghost use mathlib.Core.Path.{_≡_};
-ghost use lib.ListN.{length};
 ghost use lib.IntN.{_-ℤ_};
 ghost use Rattle.integer.specs.Places.{Bounded};
 ghost use Rattle.tape.specs.Legal.{Legal};

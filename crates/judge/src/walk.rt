@@ -112,9 +112,9 @@ fn check_states<'a>(
 // Step k of the plan.
 fn check_step(t: Tape, terms: Terms, plan: &[i32], v: [i64; 120], k: usize) -> Walk
     requires { ⌜ Legal t × TermsOf t (terms .penalty) (terms .low) (terms .high) (terms .reference) × (k < t .horizon) ⌝ }
-    requires { ⌜ (length (now plan) ≡ t .horizon * (t .n + t .m)) × HeldPlan (t .n) (t .m) k (now plan) v ⌝ }
+    requires { ⌜ (length (now plan) ≡ t .horizon * (t .n + t .m)) × HeldPlan (t .n) (t .m) k (planOf (t .n) (t .m) (now plan)) v ⌝ }
     ensures { λ r. ⌜ r .check ≡ stepCheck (problemOf t) (planOf (t .n) (t .m) (now (plan .entry))) k ⌝ }
-    ensures { λ r. ⌜ HeldWhere (r .check) (t .n) (t .m) (k + 1) (now (plan .entry)) (r .plan) ⌝ }
+    ensures { λ r. ⌜ HeldWhere (r .check) (t .n) (t .m) (k + 1) (planOf (t .n) (t .m) (now (plan .entry))) (r .plan) ⌝ }
 {
     let n = t.n;
     let m = t.m;
@@ -152,7 +152,7 @@ fn check_step(t: Tape, terms: Terms, plan: &[i32], v: [i64; 120], k: usize) -> W
 pub fn checked_plan(t: Tape, terms: Terms, plan: &[i32]) -> Walk
     requires { ⌜ Legal t × TermsOf t (terms .penalty) (terms .low) (terms .high) (terms .reference) × (length (now plan) ≡ t .horizon * (t .n + t .m)) ⌝ }
     ensures { λ r. ⌜ r .check ≡ planCheck (problemOf t) (planOf (t .n) (t .m) (now (plan .entry))) ⌝ }
-    ensures { λ r. ⌜ HeldWhere (r .check) (t .n) (t .m) (t .horizon) (now (plan .entry)) (r .plan) ⌝ }
+    ensures { λ r. ⌜ HeldWhere (r .check) (t .n) (t .m) (t .horizon) (planOf (t .n) (t .m) (now (plan .entry))) (r .plan) ⌝ }
 {
     let horizon = t.horizon;
     let mut v = [0i64; 120];

@@ -33,7 +33,7 @@ module _ (q : Problem) (y z : ℕ → ℕ → ℤ) (stepped : 1 ≤ q .horizon)
   products-cong : (k : ℕ) (c : ℕ → ℤ) → k < q .horizon → sum (q .n) (λ i. y k i *ℤ c i) ≡ sum (q .n) (λ i. z k i *ℤ c i)
   products-cong k c h = sum-cong (q .n) _ _ (λ i l. ap (λ (v : ℤ). v *ℤ c i) (same k i h l))
 
-  inputSlope-cong : (k j : ℕ) → k < q .horizon → inputSlope (q .n) (q .B) y k j ≡ inputSlope (q .n) (q .B) z k j
+  pub inputSlope-cong : (k j : ℕ) → k < q .horizon → inputSlope (q .n) (q .B) y k j ≡ inputSlope (q .n) (q .B) z k j
   unfolding inputSlope
   inputSlope-cong k j h = products-cong k (λ i. q .B i j) h
 
@@ -46,11 +46,15 @@ module _ (q : Problem) (y z : ℕ → ℕ → ℤ) (stepped : 1 ≤ q .horizon)
       go true e = products-cong (k + 1) (λ p. q .A p i) (ltb-true (k + 1) (q .horizon) e)
       go false e = refl
 
+  pub stateSlope-cong : (k i : ℕ) → k < q .horizon → i < q .n → stateSlope (q .n) (q .horizon) (q .A) y k i ≡ stateSlope (q .n) (q .horizon) (q .A) z k i
+  unfolding stateSlope
+  stateSlope-cong k i h l = ap₂ (λ (v c : ℤ). negsuc 4095 *ℤ v +ℤ c) (same k i h l) (carried-cong k i)
+
   pieces-cong : pieces q y ≡ pieces q z
-  unfolding pieces stateSlope
+  unfolding pieces
   pieces-cong =
       total-cong (q .n) (q .m) (q .horizon) _ _ _ _ (λ k j h l. ap (piece (q .inputTerm k j)) (inputSlope-cong k j h))
-      (λ k i h l. ap₂ (λ (v c : ℤ). piece (q .stateTerm k i) (negsuc 4095 *ℤ v +ℤ c)) (same k i h l) (carried-cong k i))
+      (λ k i h l. ap (piece (q .stateTerm k i)) (stateSlope-cong k i h l))
 
   constant-cong : constant q y ≡ constant q z
   unfolding constant

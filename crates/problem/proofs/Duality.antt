@@ -18,7 +18,7 @@ use Rattle.tape.specs.declared.Tape.{Tape}
 use Rattle.tape.specs.Legal.{Legal}
 use Rattle.problem.specs.Model.{Problem, Plan, problemOf, planOf, rounded, sumAt, residual}
 use Rattle.problem.specs.Cost.{total, cost, planCost, Follows, Rival, costOf}
-use Rattle.problem.specs.Dual.{inputSlope, stateSlope, piece, pieces, constant, sizes, floor, floorOf, gapOf, ceiling}
+use Rattle.problem.specs.Dual.{inputSlope, stateSlope, pieces, constant, sizes, floor, floorOf, gapOf, ceiling}
 use Rattle.problem.proofs.Total.{total-add, total-le}
 use Rattle.problem.proofs.Lagrangian.{lagrangian}
 use Rattle.problem.proofs.Piece.{piece-below}

@@ -1,5 +1,5 @@
--- The figures of document 01 that speak of the problem: one table of what the definitions give and what the document says, and
--- one fact over it.
+-- The figures of document 01 that speak of the problem: a table of what the definitions give and what the document says. The
+-- solver's table has these rows and those of M7 and M8; the fact here is what holds a change of the problem's definitions to them.
 use Prim.Native.Nat.{ℕ}
 use mathlib.Core.Path.{_≡_, refl}
 use mathlib.Core.Bool.{cond}
@@ -15,26 +15,38 @@ use Rattle.problem.specs.Model.{problemOf, planOf, stateAt, modelSum, ro
 use Rattle.problem.specs.Cost.{total, cost, planCost, costOf}
 use Rattle.problem.specs.Dual.{inputSlope, carried, stateSlope, conjugate, tilt, piece, pieces, constant, sizes, floor, floorOf, gapOf, larger, most, ceiling, shows}
 
--- tape F, with the state's limits and reference as given
-abbrev bytes : List ℕ → List ℕ
-bytes state =
+-- tape F, with the state's limits and reference and the wanted gap as given
+abbrev pub bytes : List ℕ → List ℕ → List ℕ
+bytes state wanted =
     0x10 ∷ 0x01 ∷ 0x01 ∷ 0x01 ∷ 0x20 ∷ 0x00 ∷ 0x00 ∷ 0x00 ∷ 0x10 ∷ 0x21 ∷ 0x00 ∷ 0x00 ∷ 0x00 ∷ 0x08
     ∷ 0x30 ∷ 0x00 ∷ state
     ++ 0x01 ∷ 0x30 ∷ 0x01 ∷ 0x00 ∷ 0x00 ∷ 0x28 ∷ 0x00 ∷ 0x00 ∷ 0x00 ∷ 0x01 ∷ 0x40 ∷ 0x00 ∷ 0x64 ∷ 0x00
-    ∷ 0x50 ∷ 0x19 ∷ 0x00 ∷ 0x05 ∷ 0x00 ∷ 0x40 ∷ 0x9C ∷ 0x00 ∷ 0x00 ∷ 0xFF ∷ []
+    ∷ 0x50 ∷ 0x19 ∷ 0x00 ∷ 0x05 ∷ 0x00 ∷ wanted
+    ++ 0xFF ∷ []
+
+-- limits −1,000 to 1,000, r 110
+abbrev pub wide : List ℕ
+wide = 0x18 ∷ 0xFC ∷ 0xE8 ∷ 0x03 ∷ 0x6E ∷ 0x00 ∷ []
+
+-- T = 40,000
+abbrev pub ample : List ℕ
+ample = 0x40 ∷ 0x9C ∷ 0x00 ∷ 0x00 ∷ []
 
 abbrev F : Tape
-F = reading (bytes (0x18 ∷ 0xFC ∷ 0xE8 ∷ 0x03 ∷ 0x6E ∷ 0x00 ∷ [])) .tape
+F = reading (bytes wide ample) .tape
 
 -- state limits 200 to 300, r 250
+abbrev pub narrow : List ℕ
+narrow = 0xC8 ∷ 0x00 ∷ 0x2C ∷ 0x01 ∷ 0xFA ∷ 0x00 ∷ []
+
 abbrev G : Tape
-G = reading (bytes (0xC8 ∷ 0x00 ∷ 0x2C ∷ 0x01 ∷ 0xFA ∷ 0x00 ∷ [])) .tape
+G = reading (bytes narrow ample) .tape
 
 -- the state that the model gives after the inputs u of tape F's one step
 abbrev after : ℤ → ℤ
 after u = rounded (sumAt (problemOf F) (planOf 1 1 (u ∷ [])) 0 0)
 
-abbrev table : List (ℤ × ℤ)
+abbrev pub table : List (ℤ × ℤ)
 table =
     -- M1
     (after (pos 1), pos 101) ∷ (after (pos 2), pos 101) ∷ (after (pos 3), pos 102)

@@ -49,6 +49,18 @@ pub in-range : (lo hi v : ℤ) → outside lo hi v ≡ false → (lo ≼ v) × (
 unfolding outside
 in-range lo hi v e = let o = none (ltZ v lo) (ltZ hi v ∷ []) e in omega (arith, order)
 
+pub not-less : (a b : ℤ) → b ≼ a → ltZ a b ≡ false
+not-less a b h = go (ltZ a b) refl
+  where
+    go : (test : Bool) → ltZ a b ≡ test → test ≡ false
+    go true e = let z : ⊥ = omega (arith, order) in absurd z
+    go false e = refl
+
+-- and back
+pub not-outside : (lo hi v : ℤ) → (lo ≼ v) × (v ≼ hi) → outside lo hi v ≡ false
+unfolding outside
+not-outside lo hi v h = rw (not-less v lo (h .0), not-less hi v (h .1))
+
 pub in-size : (B : ℕ) (v : ℤ) → outside (negℤ (pos B)) (pos B) v ≡ false → natAbs v ≤ B
 in-size B v e = let h = in-range (negℤ (pos B)) (pos B) v e in size-by (h .0) (h .1)
 

@@ -3,17 +3,19 @@ use Prim.Native.Nat.{ℕ}
 use Prim.Native.String.{String}
 use Rattle.tape.specs.declared.refusal.Refusal.{Refusal}
 use Rattle.tape.specs.declared.refusal.Refusal.the-variants.{Cut, Unknown, Misplaced, NoSuchPlace, OutOfRange, Twice, Absent, Overrun}
-use Rattle.tape.specs.declared.refusal.Refusal.the-variants.{Length, OffModel, OverLimit, Multiplier, Wide, NotShown}
+use Rattle.tape.specs.declared.refusal.Refusal.the-variants.{Length, OffModel, OverLimit, Multiplier, Wide, NotShown, Open}
 
--- A tape's refusal carries an offset; 9 to 14 carry nothing.
+-- A tape's refusal carries an offset; 9 to 14 carry nothing; 15 carries R.
 pub data Carried : Type 0 where
   offset : ℕ → Carried
   nothing : Carried
+  rounds : ℕ → Carried
 
 -- as one number
 abbrev pub figure : Carried → ℕ
 figure (offset at) = at
 figure nothing = 0
+figure (rounds R) = R
 
 pub record Row : Type 0 where
   pub number : ℕ
@@ -38,3 +40,4 @@ row OverLimit = rowOf 11 "over limit" nothing
 row Multiplier = rowOf 12 "multiplier" nothing
 row Wide = rowOf 13 "wide" nothing
 row NotShown = rowOf 14 "not shown" nothing
+row (Open R) = rowOf 15 "open" (rounds R)

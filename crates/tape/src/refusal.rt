@@ -17,6 +17,7 @@ pub enum Refusal {
     Multiplier,
     Wide,
     NotShown,
+    Open(usize),
 }
 
 pub fn number(refusal: Refusal) -> usize
@@ -37,10 +38,11 @@ pub fn number(refusal: Refusal) -> usize
         Refusal::Multiplier => 12,
         Refusal::Wide => 13,
         Refusal::NotShown => 14,
+        Refusal::Open(_) => 15,
     }
 }
 
-// What it carries: an offset, and 0 for nothing.
+// What it carries: an offset, the rounds R, or 0 for nothing.
 pub fn carried(refusal: Refusal) -> usize
     ensures { λ r. ⌜ r ≡ figure (row refusal .carries) ⌝ }
 {
@@ -59,5 +61,6 @@ pub fn carried(refusal: Refusal) -> usize
         Refusal::Multiplier => 0,
         Refusal::Wide => 0,
         Refusal::NotShown => 0,
+        Refusal::Open(rounds) => rounds,
     }
 }

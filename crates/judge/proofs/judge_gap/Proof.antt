@@ -27,7 +27,6 @@ cost-same : (s : tie.Start) →
     let a = s .args in
     planCost (paddedProblem (a .t1 .horizon) [] [] [] [] (a .t2 .penalty) (a .t2 .low) (a .t2 .high) (a .t2 .reference)) (paddedPlan (a .t3))
     ≡ planCost (problemOf (a .t1)) (paddedPlan (a .t3))
-unfolding planCost
 cost-same s =
     let a = s .args in
     let h = s .pre in

@@ -31,7 +31,7 @@ passed c = sym (c .before .before .before .checked-plan .ensures .0) ∙ c .enum
 
 held : (c : tie.After-enum-told) →
     let a = start (tested (c .before .before)) .args in
-    HeldPlan (a .t .n) (a .t .m) (a .t .horizon) (a .plan .now) (c .before .before .before .checked-plan .result .plan)
+    HeldPlan (a .t .n) (a .t .m) (a .t .horizon) (planOf (a .t .n) (a .t .m) (a .plan .now)) (c .before .before .before .checked-plan .result .plan)
 held c = rw (c .enum-told .given .1) at (c .before .before .before .checked-plan .ensures .1)
 
 add-if1 : tie.Need-add-if1

@@ -18,7 +18,6 @@ start c = c .before .before .before .before .before .before
 
 -- the padded problem's ceiling and floor are the tape's
 ceiling-is : (c : tie.After-ceiling-of) → back (c .ceiling-of .result) ≡ ceiling (problemOf (start c .args .t1))
-unfolding ceiling
 ceiling-is c =
     let h = start c .pre in
     called (c .ceiling-of .result) (c .ceiling-of .ok) ∙ c .ceiling-of .ensures ∙ ceiling-padded (start c .args .t1) (h .0 .0) _ _ _ _ (h .0 .1)

@@ -1,5 +1,5 @@
 use Prim.Native.Nat.{ℕ, _+_, _*_, _-_, _≤_}
-use mathlib.Core.Path.{_≡_, sym, _∙_, ap₂}
+use mathlib.Core.Path.{_≡_, sym, _∙_}
 use mathlib.Core.List.{List}
 use native.Mathlib.Omega.{arith}
 use lib.IntN.{ℤ, _+ℤ_}
@@ -13,7 +13,7 @@ use Rattle.integer.proofs.Sum.{sum-none, added}
 use Rattle.problem.specs.Cost.{cost, planCost}
 use Rattle.evaluate.specs.Padded.{termAt}
 use Rattle.evaluate.proofs.Places.{total-places}
-use Rattle.evaluate.proofs.TermSizes.{near, size-cost, term-is, copied}
+use Rattle.evaluate.proofs.TermSizes.{near, size-cost, copied, read-back}
 use Rattle.evaluate.proofs.cost.plan_cost.Statement.{statement}
 use Rattle.evaluate.proofs.cost.plan_cost.Tie as tie
 
@@ -58,7 +58,7 @@ cost-of-requires c κs =
     let p = turn c .before .loop .p in
     let h = turn c .before .before .pre in
     let g = copied (h .1) p (omega arith) in
-    (g .penalty, g .reference, rw (element-is (h .2) (omega arith) p) (h .2 .each p))
+    (g .penalty, search g, rw (element-is (h .2) (omega arith) p) (h .2 .each p))
 
 next : (c : tie.After-cost-of Inv-loop μ-loop) →
     let l = turn (c .before) .before .loop in
@@ -71,8 +71,8 @@ next c =
     let v = turn (c .before) .before .before .args .v .now in
     let h = turn (c .before) .before .before .pre in
     added (l .p) _ (λ j k. size-cost (near (h .1 .each j (omega arith)) (at v j) (h .2 .each j))) (omega arith) (l .inv .1)
-    (called (c .cost-of .result) (c .cost-of .ok) ∙ c .cost-of .ensures
-    ∙ ap₂ cost (term-is (h .1) (l .p) (omega arith)) (element-is (h .2) (omega arith) (l .p)))
+    (called (c .cost-of .result) (c .cost-of .ok)
+    ∙ read-back (h .1) (l .p) (omega arith) cost (element-is (h .2) (omega arith) (l .p)) (c .cost-of .ensures))
 
 add-total : tie.Need-add-total Inv-loop μ-loop
 add-total c = next c .fits

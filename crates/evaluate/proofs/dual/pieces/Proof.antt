@@ -1,5 +1,5 @@
 use Prim.Native.Nat.{ℕ, _+_, _*_, _-_, _≤_}
-use mathlib.Core.Path.{_≡_, sym, _∙_, ap₂}
+use mathlib.Core.Path.{_≡_, sym, _∙_}
 use mathlib.Core.List.{List}
 use native.Mathlib.Omega.{arith}
 use lib.IntN.{ℤ, _+ℤ_}
@@ -12,7 +12,7 @@ use Rattle.integer.proofs.Sizes.{called, back, element-is, Formed}
 use Rattle.integer.proofs.Sum.{sum-none, added}
 use Rattle.problem.specs.Dual.{piece}
 use Rattle.evaluate.specs.Padded.{termAt}
-use Rattle.evaluate.proofs.TermSizes.{size-piece, term-is, copied}
+use Rattle.evaluate.proofs.TermSizes.{size-piece, copied, read-back}
 use Rattle.evaluate.proofs.dual.pieces.Statement.{statement}
 use Rattle.evaluate.proofs.dual.pieces.Tie as tie
 
@@ -79,8 +79,8 @@ next c =
     let l = turn (c .before) .before .loop in
     let h = turn (c .before) .before .before .pre in
     added (l .p) _ (λ j k. size-piece (h .1 .each j (omega arith)) _ (h .2 .each j)) (omega arith) (l .inv .1)
-    (called (c .piece-of .result) (c .piece-of .ok) ∙ c .piece-of .ensures
-    ∙ ap₂ piece (term-is (h .1) (l .p) (omega arith)) (element-is (h .2) (omega arith) (l .p)))
+    (called (c .piece-of .result) (c .piece-of .ok)
+    ∙ read-back (h .1) (l .p) (omega arith) piece (element-is (h .2) (omega arith) (l .p)) (c .piece-of .ensures))
 
 add-total : tie.Need-add-total Inv-loop μ-loop
 add-total c = next c .fits

@@ -2,7 +2,6 @@ use mathlib.Core.Path.{_∙_}
 use native.Mathlib.Omega.{arith}
 use native.Mathlib.Nat.{le-refl}
 use borrow.Author.Needs.{needs}
-use lib.IntN.{pos, natAbs, _+ℤ_}
 use mir.Facts.{toZ-ofZ}
 use Rattle.integer.proofs.Sizes.{called, fits-by, size-add}
 use Rattle.problem.specs.Model.{rounded}
@@ -10,9 +9,7 @@ use Rattle.evaluate.proofs.model.state_of.Statement.{statement}
 use Rattle.evaluate.proofs.model.state_of.Tie as tie
 
 add-quotient : tie.Need-add-quotient
-add-quotient c =
-    let s = c .args .s in
-    rw (toZ-ofZ (c .fits .s)) (fits-by (s +ℤ pos 2048) (size-add s (pos 2048) (le-refl (natAbs s)) (le-refl 2048)) (omega arith))
+add-quotient c = rw (toZ-ofZ (c .fits .s)) (fits-by _ (size-add (c .args .s) _ (le-refl _) (le-refl _)) (omega arith))
 
 quotient-requires : tie.Need-quotient-requires
 quotient-requires c κs = search needs

@@ -52,7 +52,7 @@ returns : tie.Need-returns Inv-loop μ-loop
 returns c =
     let p = c .before .before .pre in
     let e : c .before .loop .k ≡ c .before .before .args .horizon = omega arith in
-    held _ _ _ _ (p .0) (p .3) (rw e at (c .before .loop .inv .3))
+    held _ _ (c .before .before .args .multipliers .now) _ (p .0) (p .3) (rw e at (c .before .loop .inv .3))
 
 pub padded-multipliers-spec : {M : Type 1} → statement M
 padded-multipliers-spec =

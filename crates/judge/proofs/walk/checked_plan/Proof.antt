@@ -12,7 +12,7 @@ use Rattle.judge.proofs.walk.checked_plan.Tie as tie
 
 abbrev Inv-loop : tie.InvT-loop
 Inv-loop t terms plan horizon v₀ k₀ v k =
-    (k ≤ horizon) × (first k (stepCheck (problemOf t) (planOf (t .n) (t .m) plan)) ≡ Passed) × HeldPlan (t .n) (t .m) k plan v
+    (k ≤ horizon) × (first k (stepCheck (problemOf t) (planOf (t .n) (t .m) plan)) ≡ Passed) × HeldPlan (t .n) (t .m) k (planOf (t .n) (t .m) plan) v
 
 abbrev μ-loop : tie.MeasureT-loop
 μ-loop t terms plan horizon v₀ k₀ v k = horizon - k

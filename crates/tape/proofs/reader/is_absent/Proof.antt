@@ -1,6 +1,4 @@
-use Prim.Native.Nat.{_+_}
-use mathlib.Core.Path.{_≡_, refl, _∙_}
-use mathlib.Core.Bool.{_||_}
+use mathlib.Core.Path.{refl, _∙_}
 use borrow.Author.Needs.{needs}
 use Rattle.tape.specs.Reading.{absent, lacks}
 use Rattle.tape.proofs.Tests.{or-yes, or-no, or-met}
@@ -19,19 +17,23 @@ is-lacking-requires-2 c κs = search needs
 is-lacking-requires-3 : tie.Need-is-lacking-requires-3
 is-lacking-requires-3 c κs = search needs
 
--- the tests but the last
-tests : (c : tie.Joined1) → let a = c .before .before .args in
-    c .if1 .if2 ≡ lacks (a .given) 66 (a .n + a .m) || lacks (a .given) 76 (a .n)
-tests c =
-    or-met (c .before .is-lacking .ensures) (c .if1 .came) (λ w. (w .0 .taken, w .1)) (λ w. (w .0 .left, w .2 ∙ w .1 .ensures))
-
 returns : tie.Need-returns
 unfolding absent
-returns c = or-yes _ (tests (c .before)) (c .if2 .taken) refl
+returns c =
+    let m = c .before in
+    or-yes (lacks (m .before .before .args .given) 82 1)
+    (or-met (m .before .is-lacking .ensures) (m .if1 .came) (λ w. (w .0 .taken, w .1)) (λ w. (w .0 .left, w .2 ∙ w .1 .ensures)))
+    (c .if2 .taken)
+    refl
 
 returns-2 : tie.Need-returns-2
 unfolding absent
-returns-2 c = or-no (tests (c .before .before)) (c .before .if2 .left) (c .is-lacking3 .ensures)
+returns-2 c =
+    let m = c .before .before in
+    or-no
+    (or-met (m .before .is-lacking .ensures) (m .if1 .came) (λ w. (w .0 .taken, w .1)) (λ w. (w .0 .left, w .2 ∙ w .1 .ensures)))
+    (c .before .if2 .left)
+    (c .is-lacking3 .ensures)
 
 pub is-absent-spec : {M : Type 1} → statement M
 is-absent-spec =

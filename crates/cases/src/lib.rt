@@ -1,5 +1,6 @@
-// Cases of the test programs: a line each, `read HEX`, `judge HEX / numbers / numbers` or
-// `show HEX / numbers`, as the second program takes them. What follows a # is passed over.
+// Cases of the test programs: a line each, `read HEX`, `judge HEX / numbers / numbers`,
+// `show HEX / numbers` or `solve HEX / numbers / numbers`, as the second program takes them. What
+// follows a # is passed over.
 use tape::refusal::Refusal;
 use tape::refusal::carried;
 use tape::refusal::number;
@@ -51,7 +52,7 @@ impl Case {
                 case.comment = true;
                 case
             }
-            b'r' | b'j' | b'h' => {
+            b'r' | b'j' | b'h' | b'v' => {
                 case.kind = c;
                 case
             }
@@ -152,14 +153,13 @@ fn narrow(x: i64) -> i32 {
     x as i32
 }
 
-// Writes a refusal: its number, and the offset that it carries or `-`.
+// Writes a refusal: its number, and what it carries, an offset or R, or `-`.
 pub fn refused(why: Refusal) {
     let n = number(why);
     print::word(b"refused");
     print::unsigned(n as u64);
-    if n < 9 {
-        print::unsigned(carried(why) as u64);
-    } else {
-        print::word(b" -");
+    match n {
+        9..=14 => print::word(b" -"),
+        _ => print::unsigned(carried(why) as u64),
     }
 }

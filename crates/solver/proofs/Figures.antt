@@ -1,0 +1,67 @@
+-- The figures of document 01, M1 to M10: one table of what the definitions give and what the document says, and one fact over it.
+use Prim.Native.Nat.{ℕ}
+use mathlib.Core.Path.{_≡_, refl}
+use mathlib.Core.List.{List, [], _∷_, _++_, map}
+use lib.IntN.{ℤ, pos, negsuc}
+use Rattle.integer.specs.Limited.{limited}
+use Rattle.integer.specs.Operand.{unsigned, signed}
+use Rattle.integer.specs.Quotient.{_÷_}
+use Rattle.integer.specs.Sum.{sum}
+use Rattle.tape.specs.declared.refusal.Refusal.{Refusal}
+use Rattle.tape.specs.Format.{sizeCommand, stateCommand, inputCommand, driftCommand, columnCommand, startCommand, roundsCommand, decoded, wrongSize, beyond, outside, wrongColumn, wrong}
+use Rattle.tape.specs.Reading.{obeySize, obeyEntry, lacks, absent, obeyEnd, obey, next, readFrom, reading}
+use Rattle.tape.specs.Refusals.{row, figure}
+use Rattle.problem.specs.Model.{stateAt, modelSum, rounded, residual}
+use Rattle.problem.specs.Cost.{total, cost, planCost}
+use Rattle.problem.specs.Dual.{inputSlope, carried, stateSlope, conjugate, tilt, piece, pieces, constant, sizes, floor, larger, most, ceiling}
+use Rattle.problem.proofs.Figures.{bytes, wide, narrow, ample, table}
+use Rattle.judge.specs.declared.Judged.{Judged}
+use Rattle.judge.specs.declared.Judged.the-variants as judgement
+use Rattle.judge.specs.Checks.{any, first, limits, meets, stateCheck, stepCheck, planCheck}
+use Rattle.judge.specs.Judging.{gapWithin, judgedOn, judged}
+use Rattle.solver.specs.Lent.{listed, joined}
+use Rattle.solver.specs.Rounds.{ahead, minimiser, modelStates, dropped, verdict, ascended}
+use Rattle.solver.specs.Solving.{Ending, proved, impossible, refused, rounds, solvingOn, solving}
+
+-- an answer as one row of numbers: 0 and the result, or a refusal's number and what it carries
+abbrev refusal : Refusal → List ℤ
+refusal why = pos (row why .number) ∷ pos (figure (row why .carries)) ∷ []
+
+abbrev judgement-row : Judged → List ℤ
+judgement-row (judgement.Gap gap) = pos 0 ∷ gap ∷ []
+judgement-row (judgement.Refused why) = refusal why
+
+-- of a solve: 0, the rounds, the gap, the plan and the multipliers
+abbrev ending-row : Ending → List ℤ
+ending-row (proved rounds gap plan y) = pos 0 ∷ pos rounds ∷ gap ∷ plan ++ y
+ending-row (impossible rounds y) = pos 0 ∷ pos rounds ∷ y
+ending-row (refused why) = refusal why
+
+-- tape F with T = 30,000, 32,767 and 32,768
+abbrev wanting : List ℕ → List ℕ
+wanting = bytes wide
+
+-- M4's plan and multipliers, judged; and a solve of a tape
+abbrev judge : List ℕ → List ℤ
+judge s = judgement-row (judged s (pos 4 ∷ pos 102 ∷ []) (negsuc 15 ∷ []))
+
+abbrev solve : List ℕ → List ℤ
+solve s = ending-row (solving s (pos 0 ∷ pos 0 ∷ []) (pos 0 ∷ []))
+
+abbrev whole : List (List ℤ × List ℤ)
+whole =
+    -- M1 to M6, M9, M10
+    map (λ f. (f .0 ∷ [], f .1 ∷ [])) table
+    ++
+    -- M7
+    (judge (wanting (0x00 ∷ 0x80 ∷ 0x00 ∷ 0x00 ∷ [])), pos 0 ∷ pos 32768 ∷ []) ∷ (judge (wanting (0xFF ∷ 0x7F ∷ 0x00 ∷ 0x00 ∷ [])), pos 13 ∷ pos 0 ∷ [])
+    -- M8
+    ∷ (solve (wanting (0x30 ∷ 0x75 ∷ 0x00 ∷ 0x00 ∷ [])), pos 15 ∷ pos 5 ∷ [])
+    -- tape F's own slip, and M9's tape solved
+    ∷ (solve (wanting ample), pos 0 ∷ pos 2 ∷ pos 32768 ∷ pos 4 ∷ pos 102 ∷ negsuc 15 ∷ [])
+    ∷ (solve (bytes narrow ample), pos 0 ∷ pos 2 ∷ negsuc 233 ∷ [])
+    ∷ []
+
+pub figures : map (λ f. f .0) whole ≡ map (λ f. f .1) whole
+unfolding unsigned signed _÷_ sum sizeCommand stateCommand inputCommand driftCommand columnCommand startCommand roundsCommand decoded wrongSize beyond outside wrongColumn wrong obeySize obeyEntry lacks absent obeyEnd obey next readFrom reading stateAt modelSum rounded residual total cost planCost inputSlope carried stateSlope conjugate tilt piece pieces constant sizes floor larger most ceiling limited any first limits meets stateCheck stepCheck planCheck gapWithin judgedOn judged listed joined ahead minimiser modelStates dropped verdict ascended rounds solvingOn solving
+figures = refl

@@ -34,7 +34,7 @@ Moved from (Refused why) to = Unit {0}
 moved : (s : List ℕ) (q : Reader) → let r = next s q in Moved (q .at) (r .verdict) (r .at)
 moved s q =
     next-leads (λ r. Moved (q .at) (r .verdict) (r .at)) s q
-    (record { refused = λ _. tt; size = λ n m horizon _ _. omega arith; entry = λ e _ _ _ _. omega (arith, some-bytes e); ended = λ _ _. tt })
+    (record { refused = λ _ _. tt; size = λ n m horizon _ _. omega arith; entry = λ e _ _ _ _ _. omega (arith, some-bytes e); ended = λ _ _. tt })
 
 outcome-same : (v : Verdict) (t : Tape) (x y : Reading) {from to : ℕ} → Moved from v to → (from < to → x ≡ y) → outcome v t x ≡ outcome v t y
 outcome-same Going t x y h f = f h

@@ -301,9 +301,9 @@ next-holds : (s : List ℕ) (q : Reader) → Bytes s → Kept (q .tape) (q .give
 next-holds s q b k =
     next-leads (λ r. Holds (r .verdict) (r .tape) (r .given)) s q
     (record {
-      refused = λ _. tt;
+      refused = λ _ _. tt;
       size = λ n m horizon u w. inr (size-kept n m horizon u w k);
-      entry = λ e d u x w. inr (entry-kept e (subst Ranged d (ranged s (q .at) b)) x w (once-sized u k));
+      entry = λ e d u x w _. inr (entry-kept e (subst Ranged d (ranged s (q .at) b)) x w (once-sized u k));
       ended = λ u a. ended-legal a (once-sized u k);
     })
 

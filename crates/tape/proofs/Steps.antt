@@ -19,6 +19,7 @@ use Rattle.tape.specs.declared.reader.Reader.{Reader}
 use Rattle.tape.specs.declared.reader.Verdict.{Verdict}
 use Rattle.tape.specs.declared.reader.Verdict.the-variants.{Going, Ended}
 use Rattle.tape.specs.declared.refusal.Refusal.{Refusal}
+use Rattle.tape.specs.Refusals.{row, figure}
 use Rattle.tape.specs.Format.{decoded, bytesOf, wrongSize, beyond, wrong, placeOf, withSize, with}
 use Rattle.tape.specs.Reading.{refuse, refuseWhen, marked, sized, lacks, absent, obeySize, obeyEntry, obeyEnd, obey, next, outcome, readFrom}
 use Rattle.tape.proofs.Tests.{by-test, none}
@@ -42,30 +43,35 @@ lacks-more given p count e f = rw (add-one count, e, f)
 -- ---- What the next command leads to: to a reader of which P holds, if P holds where the command is refused and where it is obeyed
 
 pub record Leads (P : Reader → Type 0) (s : List ℕ) (q : Reader) : Type 0 where
-  pub refused : (why : Refusal) → P (refuse why q)
+  pub refused : (why : Refusal) → figure (row why .carries) ≤ q .at + 1 → P (refuse why q)
   pub size : (n m horizon : ℕ) → sized (q .tape) ≡ false → wrongSize n m horizon ≡ false →
       P (record { at = q .at + 4; verdict = Going; tape = withSize (q .tape) n m horizon; given = q .given })
   pub entry : (e : Entry) → decoded s (q .at) ≡ command.Give e →
-      not (sized (q .tape)) ≡ false → beyond (q .tape .n) (q .tape .m) e ≡ false → wrong e ≡ false →
+      not (sized (q .tape)) ≡ false → beyond (q .tape .n) (q .tape .m) e ≡ false → wrong e ≡ false → marked (q .given) (placeOf e) ≡ false →
       P (record { at = q .at + bytesOf e; verdict = Going; tape = with (q .tape) e; given = set (q .given) (placeOf e) true })
   pub ended : not (sized (q .tape)) ≡ false → absent (q .tape .n) (q .tape .m) (q .given) ≡ false →
       P (record { at = q .at; verdict = Ended; tape = q .tape; given = q .given })
 
 module _ (P : Reader → Type 0) (s : List ℕ) (q : Reader) (k : Leads P s q) where
-  passed : (test : Bool) (why : Refusal) {r : Reader} → (test ≡ false → P r) → P (refuseWhen test why q r)
-  passed test why f = by-test P test (λ _. k .refused why) f
+  passed : (test : Bool) (why : Refusal) {r : Reader} → figure (row why .carries) ≤ q .at + 1 → (test ≡ false → P r) → P (refuseWhen test why q r)
+  passed test why h f = by-test P test (λ _. k .refused why h) f
+
+  -- most refusals carry the command's own offset
+  here : q .at ≤ q .at + 1
+  here = omega arith
 
   obeyed : (c : Command) → decoded s (q .at) ≡ c → P (obey c s q)
   unfolding obey obeySize obeyEntry obeyEnd
-  obeyed command.Unknown d = k .refused _
-  obeyed command.Cut d = k .refused _
-  obeyed (command.Size n m horizon) d = passed _ _ (λ u. passed _ _ (λ w. k .size n m horizon u w))
-  obeyed (command.Give e) d = passed _ _ (λ u. passed _ _ (λ b. passed _ _ (λ w. passed (marked (q .given) (placeOf e)) _ (λ _. k .entry e d u b w))))
-  obeyed command.End d = passed _ _ (λ u. passed _ _ (λ a. passed (ltb (q .at + 1) (length s)) _ (λ _. k .ended u a)))
+  obeyed command.Unknown d = k .refused _ here
+  obeyed command.Cut d = k .refused _ here
+  obeyed (command.Size n m horizon) d = passed _ _ here (λ u. passed _ _ here (λ w. k .size n m horizon u w))
+  obeyed (command.Give e) d =
+      passed _ _ here (λ u. passed _ _ here (λ b. passed _ _ here (λ w. passed (marked (q .given) (placeOf e)) _ here (λ g. k .entry e d u b w g))))
+  obeyed command.End d = passed _ _ here (λ u. passed _ _ here (λ a. passed (ltb (q .at + 1) (length s)) _ (omega arith) (λ _. k .ended u a)))
 
   pub next-leads : P (next s q)
   unfolding next
-  next-leads = by-test P (ltb (q .at) (length s)) (λ _. obeyed (decoded s (q .at)) refl) (λ _. k .refused _)
+  next-leads = by-test P (ltb (q .at) (length s)) (λ _. obeyed (decoded s (q .at)) refl) (λ h. k .refused _ (omega (arith, ltb-false (q .at) (length s) h)))
 
 -- ---- The sizes stay in range
 
@@ -90,7 +96,7 @@ small-with t (Rounds g rounds wanted) h = record { n = h .n; m = h .m }
 pub small-next : (s : List ℕ) (q : Reader) → Small (q .tape) → Small (next s q .tape)
 small-next s q h =
     next-leads (λ r. Small (r .tape)) s q
-    (record { refused = λ _. h; size = λ n m horizon _ w. small-size (q .tape) n m horizon w; entry = λ e _ _ _ _. small-with (q .tape) e h; ended = λ _ _. h })
+    (record { refused = λ _ _. h; size = λ n m horizon _ w. small-size (q .tape) n m horizon w; entry = λ e _ _ _ _ _. small-with (q .tape) e h; ended = λ _ _. h })
 
 -- ---- Reading on
 

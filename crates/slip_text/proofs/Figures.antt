@@ -1,0 +1,50 @@
+-- Slips of document 01's tapes and of some answers: one table of what the definitions give and what is printed, and one fact over it.
+use Prim.Native.Nat.{ℕ}
+use Prim.Native.String.{String}
+use mathlib.Core.Path.{_≡_, refl}
+use mathlib.Core.List.{List, [], _∷_, _++_, map}
+use lib.IntN.{pos, negsuc}
+use lib.ListN.{take}
+use Rattle.integer.specs.Limited.{limited}
+use Rattle.integer.specs.Operand.{unsigned, signed}
+use Rattle.integer.specs.Quotient.{_÷_}
+use Rattle.integer.specs.Sum.{sum}
+use Rattle.tape.specs.declared.refusal.Refusal.the-variants.{Length}
+use Rattle.tape.specs.Format.{sizeCommand, stateCommand, inputCommand, driftCommand, columnCommand, startCommand, roundsCommand, decoded, wrongSize, beyond, outside, wrongColumn, wrong}
+use Rattle.tape.specs.Reading.{obeySize, obeyEntry, lacks, absent, obeyEnd, obey, next, readFrom, reading}
+use Rattle.problem.specs.Model.{stateAt, modelSum, rounded, residual}
+use Rattle.problem.specs.Cost.{total, cost, planCost}
+use Rattle.problem.specs.Dual.{inputSlope, carried, stateSlope, conjugate, tilt, piece, pieces, constant, sizes, floor, larger, most, ceiling}
+use Rattle.problem.proofs.Figures.{bytes, wide, narrow, ample}
+use Rattle.judge.specs.Checks.{any}
+use Rattle.solver.specs.declared.Duties.{Duties}
+use Rattle.solver.specs.declared.Solved.the-variants.{Proved, Refused}
+use Rattle.solver.specs.Lent.{listed, joined}
+use Rattle.solver.specs.Rounds.{ahead, minimiser, modelStates, dropped, verdict, ascended}
+use Rattle.solver.specs.Solving.{duty, rounds, solvingOn, solving}
+use Rattle.slip_text.specs.Decimal.{text, digits}
+use Rattle.slip_text.specs.Slip.{slip, tapeSlip}
+
+abbrev F : List ℕ
+F = bytes wide ample
+
+abbrev four : Duties
+four = record { u0 = negsuc 19999; u1 = pos 0; u2 = pos 10; u3 = negsuc 8 }
+
+abbrev table : List (List ℕ × String)
+table =
+    (tapeSlip F, "proved\nrounds 2\ngap 32768\nfirst 4\n")
+    -- without its command 50; with bytes after FF; the empty tape
+    ∷ (tapeSlip (take 36 F ++ 0xFF ∷ []), "refused 7 at 36\n") ∷ (tapeSlip (F ++ 0xFF ∷ []), "refused 8 at 46\n") ∷ (tapeSlip [], "refused 1 at 0\n")
+    -- M8, M9
+    ∷ (tapeSlip (bytes wide (0x30 ∷ 0x75 ∷ 0x00 ∷ 0x00 ∷ [])), "open\nrounds 5\n") ∷ (tapeSlip (bytes narrow ample), "impossible\nrounds 2\n")
+    -- duties below 0; a gap below 0
+    ∷ (slip (Proved 10000 (pos 0) four) 4, "proved\nrounds 10000\ngap 0\nfirst -20000 0 10 -9\n") ∷ (slip (Proved 1 (negsuc 0) four) 1, "proved\nrounds 1\ngap -1\nfirst -20000\n")
+    -- m beyond 1 to 4
+    ∷ (slip (Proved 1 (pos 9) four) 0, "proved\nrounds 1\ngap 9\nfirst\n") ∷ (slip (Proved 1 (pos 9) four) 5, "proved\nrounds 1\ngap 9\nfirst -20000 0 10 -9\n")
+    ∷ (slip (Refused Length) 1, "refused 9\n")
+    ∷ []
+
+pub figures : map (λ f. f .0) table ≡ map (λ f. text (f .1)) table
+unfolding unsigned signed _÷_ sum sizeCommand stateCommand inputCommand driftCommand columnCommand startCommand roundsCommand decoded wrongSize beyond outside wrongColumn wrong obeySize obeyEntry lacks absent obeyEnd obey next readFrom reading stateAt modelSum rounded residual total cost planCost inputSlope carried stateSlope conjugate tilt piece pieces constant sizes floor larger most ceiling limited listed joined ahead minimiser modelStates dropped verdict ascended rounds solvingOn solving duty any digits
+figures = refl

@@ -1,0 +1,60 @@
+-- Document 01, "Firing slip": the lines that the printing program writes.
+use Prim.Native.Nat.{ℕ, _+_, _*_}
+use mathlib.Core.List.{List, [], _∷_, _++_}
+use lib.ListN.{take}
+use lib.IntN.{ℤ}
+use Rattle.tape.specs.Reading.{reading}
+use Rattle.tape.specs.Refusals.{Carried, offset, nothing, rounds, row}
+use Rattle.tape.specs.Tape.{zeros}
+use Rattle.tape.specs.declared.Tape.{Tape}
+use Rattle.solver.specs.declared.Duties.{Duties}
+use Rattle.solver.specs.declared.Solved.{Solved}
+use Rattle.solver.specs.declared.Solved.the-variants.{Proved, Impossible, Refused}
+use Rattle.solver.specs.Solving.{answerOf, solving}
+use Rattle.slip_text.specs.Decimal.{text, decimal, signed}
+
+-- Every line ends with a newline.
+abbrev pub line : List ℕ → List ℕ
+line s = s ++ text "\n"
+
+abbrev pub roundsLine : ℕ → List ℕ
+roundsLine R = line (text "rounds " ++ decimal R)
+
+abbrev pub gapLine : ℤ → List ℕ
+gapLine gap = line (text "gap " ++ signed gap)
+
+-- Duties with a blank before each.
+abbrev pub blankAnd : ℤ → List ℕ
+blankAnd duty = text " " ++ signed duty
+
+abbrev pub spaced : List ℤ → List ℕ
+spaced [] = []
+spaced (duty ∷ others) = blankAnd duty ++ spaced others
+
+-- The first m duties. m is 1 to 4; 0 would give none, and a larger one all four.
+abbrev pub duties : ℕ → Duties → List ℤ
+duties m first = take m (first .u0 ∷ first .u1 ∷ first .u2 ∷ first .u3 ∷ [])
+
+abbrev pub firstLine : ℕ → Duties → List ℕ
+firstLine m first = line (text "first" ++ spaced (duties m first))
+
+-- A refusal by its number and what it carries: a tape's refusal has an offset, 'open' the rounds. The refusals 9 to 14
+-- carry nothing; the printing program never meets one, since it lends slices of the right lengths and judges nothing.
+abbrev pub refusalLines : ℕ → Carried → List ℕ
+refusalLines number (offset at) = line ((text "refused " ++ decimal number) ++ (text " at " ++ decimal at))
+refusalLines number nothing = line (text "refused " ++ decimal number)
+refusalLines number (rounds R) = line (text "open") ++ roundsLine R
+
+-- The slip of a solve's answer, for m inputs.
+abbrev pub slip : Solved → ℕ → List ℕ
+slip (Proved R gap first) m = line (text "proved") ++ roundsLine R ++ gapLine gap ++ firstLine m first
+slip (Impossible R) m = line (text "impossible") ++ roundsLine R
+slip (Refused why) m = refusalLines (row why .number) (row why .carries)
+
+-- The answer to a tape when slices of zeros, of the lengths that it asks for, are lent.
+abbrev pub answered : List ℕ → Tape → Solved
+answered s t = answerOf t (solving s (zeros (t .horizon * (t .n + t .m))) (zeros (t .horizon * t .n)))
+
+-- The slip of a tape.
+abbrev pub tapeSlip : List ℕ → List ℕ
+tapeSlip s = slip (answered s (reading s .tape)) (reading s .tape .m)

@@ -1,0 +1,93 @@
+// The lines of the slip.
+ghost use Prim.Native.Nat.{_+_, _≤_};
+ghost use mathlib.Core.Bool.{cond};
+ghost use mathlib.Core.List.{_++_, []};
+ghost use lib.ListN.{length};
+ghost use Rattle.tape.specs.Refusals.{row};
+ghost use Rattle.solver.specs.declared.Solved.{Solved};
+ghost use Rattle.slip_text.specs.Slip.{roundsLine, gapLine, blankAnd, firstLine, refusalLines, slip};
+ghost use Rattle.slip_text.specs.Written.{Holds, Appended};
+use crate::text::Text;
+use solver::Duties;
+use tape::refusal::Refusal;
+use tape::refusal::carried;
+use tape::refusal::number;
+
+fn with_rounds(text: Text, rounds: usize) -> Text
+    requires { ⌜ text .length + 28 ≤ 160 ⌝ }
+    ensures { λ r. ⌜ Appended text (roundsLine rounds) 28 r ⌝ }
+{
+    let named = text.with_word(b"rounds ");
+    let numbered = named.with_number(rounds as u64);
+    numbered.with_word(b"\n")
+}
+
+fn with_gap(text: Text, gap: i64) -> Text
+    requires { ⌜ text .length + 26 ≤ 160 ⌝ }
+    ensures { λ r. ⌜ Appended text (gapLine gap) 26 r ⌝ }
+{
+    let named = text.with_word(b"gap ");
+    let numbered = named.with_signed(gap);
+    numbered.with_word(b"\n")
+}
+
+// A blank and the duty, where it is one of the m.
+fn with_duty(text: Text, duty: i32, due: bool) -> Text
+    requires { ⌜ text .length + 22 ≤ 160 ⌝ }
+    ensures { λ r. ⌜ Appended text (cond due (blankAnd duty) []) 22 r ⌝ }
+{
+    if due {
+        let blank = text.with_word(b" ");
+        return blank.with_signed(duty as i64);
+    }
+    text
+}
+
+fn with_first(text: Text, first: Duties, m: usize) -> Text
+    requires { ⌜ text .length + 94 ≤ 160 ⌝ }
+    ensures { λ r. ⌜ Appended text (firstLine m first) 94 r ⌝ }
+{
+    let named = text.with_word(b"first");
+    let one = with_duty(named, first.u0, 0 < m);
+    let two = with_duty(one, first.u1, 1 < m);
+    let three = with_duty(two, first.u2, 2 < m);
+    let four = with_duty(three, first.u3, 3 < m);
+    four.with_word(b"\n")
+}
+
+pub fn kind_and_rounds(kind: &[u8], rounds: usize) -> Text
+    requires { ⌜ length (now kind) ≤ 11 ⌝ }
+    ensures { λ r. ⌜ Holds r (now (kind .entry) ++ roundsLine rounds) ⌝ }
+    ensures { λ r. ⌜ r .length ≤ 39 ⌝ }
+{
+    let empty = Text::empty();
+    let named = empty.with_word(kind);
+    with_rounds(named, rounds)
+}
+
+pub fn proved(rounds: usize, gap: i64, first: Duties, m: usize) -> Text
+    ensures { λ r. ⌜ Holds r (slip (Solved.Proved rounds gap first) m) ⌝ }
+{
+    let entered = kind_and_rounds(b"proved\n", rounds);
+    let bounded = with_gap(entered, gap);
+    with_first(bounded, first, m)
+}
+
+pub fn refused(why: Refusal) -> Text
+    ensures { λ r. ⌜ Holds r (refusalLines (row why .number) (row why .carries)) ⌝ }
+{
+    let n = number(why);
+    let figure = carried(why);
+    if n == 15 {
+        return kind_and_rounds(b"open\n", figure);
+    }
+    let empty = Text::empty();
+    let named = empty.with_word(b"refused ");
+    let numbered = named.with_number(n as u64);
+    if n < 9 {
+        let at = numbered.with_word(b" at ");
+        let placed = at.with_number(figure as u64);
+        return placed.with_word(b"\n");
+    }
+    numbered.with_word(b"\n")
+}

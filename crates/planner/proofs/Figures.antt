@@ -1,0 +1,190 @@
+-- The figures of an answer are at most 10,000, so that a refusal's code, and the rounds, fit their words.
+use Prim.Native.Nat.{ℕ, zero, suc, _+_, _≤_}
+use mathlib.Core.Path.{_≡_, refl}
+use mathlib.Core.Bool.{Bool, true, false, cond, _||_}
+use mathlib.Core.List.{List}
+use native.Mathlib.Omega.{arith}
+use lib.IntN.{ℤ, _-ℤ_}
+use lib.Signed.{ltZ}
+use Rattle.integer.proofs.Operand.{Bytes}
+use Rattle.tape.specs.declared.Answer.{Answer}
+use Rattle.tape.specs.declared.Answer.the-variants as answer
+use Rattle.tape.specs.declared.Tape.{Tape}
+use Rattle.tape.specs.declared.refusal.Refusal.{Refusal}
+use Rattle.tape.specs.declared.refusal.Refusal.the-variants.{Cut, Unknown, Misplaced, NoSuchPlace, OutOfRange, Twice, Absent, Overrun}
+use Rattle.tape.specs.declared.refusal.Refusal.the-variants.{Length, OffModel, OverLimit, Multiplier, Wide, NotShown, Open}
+use Rattle.tape.specs.Format.{outside}
+use Rattle.tape.specs.Reading.{reading}
+use Rattle.tape.specs.Refusals.{row, figure}
+use Rattle.tape.proofs.Facts.{legal}
+use Rattle.tape.proofs.Offsets.{Carrying, carrying}
+use Rattle.tape.proofs.Tests.{by-test}
+use Rattle.problem.specs.Model.{Problem, Plan, problemOf, planOf, multipliersOf, rounded}
+use Rattle.problem.specs.Cost.{planCost}
+use Rattle.problem.specs.Dual.{floor, floorOf, ceiling}
+use Rattle.judge.specs.declared.Judged.{Judged}
+use Rattle.judge.specs.declared.Judged.the-variants as judging
+use Rattle.judge.specs.declared.Shown.{Shown}
+use Rattle.judge.specs.declared.Shown.the-variants as showing
+use Rattle.judge.specs.declared.walk.Check.{Check}
+use Rattle.judge.specs.declared.walk.Check.the-variants as check
+use Rattle.judge.specs.Checks.{orElse, first, limits, meets, stateCheck, stepCheck, planCheck, wrongMultipliers}
+use Rattle.judge.specs.Judging.{wrongPlanLength, wrongMultipliersLength, gapWithin, afterCheck, judgedOn, afterRead, judged}
+use Rattle.judge.specs.Judging.{floorAbove, shownOn, shownAfterRead, shown}
+use Rattle.solver.specs.declared.Solved.{Solved}
+use Rattle.solver.specs.declared.Solved.the-variants as solved
+use Rattle.solver.specs.declared.rounds.Verdict.{Verdict}
+use Rattle.solver.specs.declared.rounds.Verdict.the-variants.{Proved, Impossible, Neither}
+use Rattle.solver.specs.Lent.{lentPlan}
+use Rattle.solver.specs.Rounds.{verdict}
+use Rattle.solver.specs.Solving.{aheadOf, candidateOf, ascendedOf, Ending, ended, rounds, solvingOn, solving, answerOf}
+use Rattle.solver.specs.Solving as solve
+
+abbrev pub Small : Refusal → Type 0
+Small why = figure (row why .carries) ≤ 10000
+
+-- a refusal's number
+pub number-range : (why : Refusal) → (1 ≤ row why .number) × (row why .number ≤ 15)
+number-range (Cut at) = omega arith
+number-range (Unknown at) = omega arith
+number-range (Misplaced at) = omega arith
+number-range (NoSuchPlace at) = omega arith
+number-range (OutOfRange at) = omega arith
+number-range (Twice at) = omega arith
+number-range (Absent at) = omega arith
+number-range (Overrun at) = omega arith
+number-range Length = omega arith
+number-range OffModel = omega arith
+number-range OverLimit = omega arith
+number-range Multiplier = omega arith
+number-range Wide = omega arith
+number-range NotShown = omega arith
+number-range (Open R) = omega arith
+
+-- ---- Reading
+
+abbrev pub SmallRead : Answer → Type 0
+SmallRead answer.Accepted = Unit {0}
+SmallRead (answer.Refused why) = Small why
+
+from-tape : (a : Answer) → Carrying a → SmallRead a
+from-tape answer.Accepted h = tt
+from-tape (answer.Refused why) h = omega arith
+
+pub small-read : (s : List ℕ) → SmallRead (reading s .answer)
+small-read s = from-tape (reading s .answer) (carrying s)
+
+-- ---- The judges
+
+data SmallCheck : Check → Type 0 where
+  passed : SmallCheck check.Passed
+  refused : {why : Refusal} → Small why → SmallCheck (check.Refused why)
+
+either : {c d : Check} → SmallCheck c → SmallCheck d → SmallCheck (orElse c d)
+either passed k = k
+either (refused h) k = refused h
+
+small-first : (count : ℕ) (f : ℕ → Check) → ((j : ℕ) → SmallCheck (f j)) → SmallCheck (first count f)
+unfolding first
+small-first zero f h = passed
+small-first (suc count) f h = either (small-first count f h) (h count)
+
+tested : (test : Bool) (why : Refusal) → Small why → SmallCheck (cond test (check.Refused why) check.Passed)
+tested test why h = by-test SmallCheck test (λ _. refused h) (λ _. passed)
+
+small-limits : (lo hi v : ℤ) → SmallCheck (limits lo hi v)
+unfolding limits
+small-limits lo hi v = tested (outside lo hi v) OverLimit (omega arith)
+
+small-meets : (S v : ℤ) → SmallCheck (meets S v)
+unfolding meets
+small-meets S v = tested (outside (rounded S) (rounded S) v) OffModel (omega arith)
+
+small-plan : (q : Problem) (v : Plan) → SmallCheck (planCheck q v)
+unfolding planCheck stepCheck stateCheck
+small-plan q v =
+    small-first (q .horizon) _
+    (λ k. either (small-first (q .m) _ (λ j. small-limits _ _ _)) (small-first (q .n) _ (λ i. either (small-meets _ _) (small-limits _ _ _))))
+
+abbrev pub SmallJudged : Judged → Type 0
+SmallJudged (judging.Gap gap) = Unit {0}
+SmallJudged (judging.Refused why) = Small why
+
+pub small-judged : (s : List ℕ) (plan y : List ℤ) → SmallJudged (judged s plan y)
+unfolding judged judgedOn gapWithin
+small-judged s plan y = go (reading s .answer) (small-read s)
+  where
+    t : Tape
+    t = reading s .tape
+
+    checked : (c : Check) (gap : ℤ) → SmallCheck c → SmallJudged (afterCheck c (gapWithin t gap))
+    checked check.Passed gap passed = by-test SmallJudged (ltZ (t .wanted) gap) (λ _. omega arith) (λ _. tt)
+    checked (check.Refused why) gap (refused h) = h
+
+    go : (a : Answer) → SmallRead a → SmallJudged (afterRead a (judgedOn t plan y))
+    go answer.Accepted h =
+        by-test SmallJudged (wrongPlanLength t plan || wrongMultipliersLength t y) (λ _. omega arith)
+        (λ _. by-test SmallJudged (wrongMultipliers y) (λ _. omega arith) (λ _. checked _ _ (small-plan (problemOf t) (planOf (t .n) (t .m) plan))))
+    go (answer.Refused why) h = h
+
+abbrev pub SmallShown : Shown → Type 0
+SmallShown showing.Shown = Unit {0}
+SmallShown (showing.Refused why) = Small why
+
+pub small-shown : (s : List ℕ) (y : List ℤ) → SmallShown (shown s y)
+unfolding shown shownOn floorAbove
+small-shown s y = go (reading s .answer) (small-read s)
+  where
+    t : Tape
+    t = reading s .tape
+
+    go : (a : Answer) → SmallRead a → SmallShown (shownAfterRead a (shownOn t y))
+    go answer.Accepted h =
+        by-test SmallShown (wrongMultipliersLength t y) (λ _. omega arith)
+        (λ _. by-test SmallShown (wrongMultipliers y) (λ _. omega arith)
+        (λ _. by-test SmallShown (ltZ (ceiling (problemOf t)) (floor (problemOf t) (multipliersOf (t .n) y))) (λ _. tt) (λ _. omega arith)))
+    go (answer.Refused why) h = h
+
+-- ---- Solving
+
+abbrev pub SmallSolved : Solved → Type 0
+SmallSolved (solved.Proved rounds gap first) = rounds ≤ 10000
+SmallSolved (solved.Impossible rounds) = rounds ≤ 10000
+SmallSolved (solved.Refused why) = Small why
+
+data SmallEnding : Ending → Type 0 where
+  proved : {rounds : ℕ} {gap : ℤ} {plan y : List ℤ} → rounds ≤ 10000 → SmallEnding (solve.proved rounds gap plan y)
+  impossible : {rounds : ℕ} {y : List ℤ} → rounds ≤ 10000 → SmallEnding (solve.impossible rounds y)
+  refused : {why : Refusal} → Small why → SmallEnding (solve.refused why)
+
+small-answer : (t : Tape) {e : Ending} → SmallEnding e → SmallSolved (answerOf t e)
+small-answer t (proved h) = h
+small-answer t (impossible h) = h
+small-answer t (refused h) = h
+
+small-round : (k : ℕ) {after : Ending} (v : Verdict) (plan y : List ℤ) → k ≤ 10000 → SmallEnding after → SmallEnding (ended v k plan y after)
+small-round k (Proved gap) plan y h a = proved h
+small-round k Impossible plan y h a = impossible h
+small-round k Neither plan y h a = a
+
+small-rounds : (t : Tape) (left k : ℕ) (y previous : List ℤ) → t .rounds ≤ 10000 → k + left ≤ t .rounds → SmallEnding (rounds t left k y previous)
+unfolding rounds
+small-rounds t zero k y previous r h = refused r
+small-rounds t (suc left) k y previous r h =
+    let y~ = aheadOf t k y previous in
+    let v = candidateOf t y~ in
+    small-round (k + 1) (verdict t v (floorOf t y~)) (lentPlan (t .n) (t .m) (t .horizon) v) y~ (omega arith)
+    (small-rounds t left (k + 1) (ascendedOf t y~) y r (omega arith))
+
+pub small-solved : (s : List ℕ) (plan y : List ℤ) → Bytes s → SmallSolved (answerOf (reading s .tape) (solving s plan y))
+unfolding solving solvingOn
+small-solved s plan y b = small-answer t (go (reading s .answer) refl (small-read s))
+  where
+    t : Tape
+    t = reading s .tape
+
+    go : (a : Answer) → reading s .answer ≡ a → SmallRead a → SmallEnding (solve.afterRead a (solvingOn t plan y))
+    go answer.Accepted e h =
+        by-test SmallEnding (wrongPlanLength t plan || wrongMultipliersLength t y) (λ _. refused (omega arith))
+        (λ _. small-rounds t (t .rounds) 0 _ _ (legal s b e .rounds .1) (omega arith))
+    go (answer.Refused why) e h = refused h

@@ -1,0 +1,163 @@
+// The planner for other languages: the four calls of document 01 as C functions. Each returns 0 where
+// it has a result, and else the refusal's number + 256 times what it carries.
+ghost use Prim.Native.Nat.{_+_, _≤_};
+ghost use mathlib.Core.Path.{_≡_};
+ghost use mathlib.Core.List.{[], _∷_, _++_};
+ghost use lib.ListN.{length, take};
+ghost use lib.IntN.{pos};
+ghost use Rattle.tape.specs.Legal.{Legal};
+ghost use Rattle.tape.specs.Reading.{reading};
+ghost use Rattle.tape.specs.Refusals.{row, figure};
+ghost use Rattle.judge.specs.Judging.{judged, shown};
+ghost use Rattle.solver.specs.Solving.{solving, answerOf, planLeft, multipliersLeft};
+ghost use Rattle.planner.specs.Calls.{codeOf, numbersOf, readCode, readLeft, judgedCode, judgedLeft, shownCode, solvedCode, solvedLeft};
+ghost use Rattle.planner.specs.Demand.{BackedBy, FoundedBy, UpheldBy, AgainBy, RoundsBy};
+use judge::Judged;
+use judge::Shown;
+use judge::judge_multipliers;
+use judge::judge_plan;
+use solver::Duties;
+use solver::Solved;
+use solver::solve;
+use tape::Answer;
+use tape::Tape;
+use tape::read;
+use tape::refusal::Refusal;
+use tape::refusal::carried;
+use tape::refusal::number;
+
+// Reads a tape. `out` then holds its numbers.
+#[no_mangle]
+pub extern "C" fn fibergravel_read(tape: &[u8], out: &mut [i64; 118]) -> u64
+    ensures { λ r. ⌜ r ≡ readCode (reading (now (tape .entry)) .answer) ⌝ }
+    ensures { λ _. ⌜ now (out .exit) ≡ readLeft (reading (now (tape .entry)) .answer) (reading (now (tape .entry)) .tape) (now (out .entry)) ⌝ }
+{
+    let result = read(tape);
+    let answer = result.answer;
+    match answer {
+        Answer::Accepted => {
+            *out = numbers_of(result.tape);
+            0
+        }
+        Answer::Refused(why) => code(why),
+    }
+}
+
+// Judges a plan with multipliers. `out` then holds the gap.
+#[no_mangle]
+pub extern "C" fn fibergravel_judge_plan(
+    tape: &[u8],
+    plan: &[i32],
+    multipliers: &[i32],
+    out: &mut [i64; 1],
+) -> u64
+    ensures { λ r. ⌜ r ≡ judgedCode (judged (now (tape .entry)) (now (plan .entry)) (now (multipliers .entry))) ⌝ }
+    ensures { λ _. ⌜ now (out .exit) ≡ judgedLeft (judged (now (tape .entry)) (now (plan .entry)) (now (multipliers .entry))) (now (out .entry)) ⌝ }
+    ensures { λ r. ⌜ BackedBy r (now (out .exit)) (reading (now (tape .entry)) .tape) (now (plan .entry)) ⌝ }
+{
+    let answer = judge_plan(tape, plan, multipliers);
+    match answer {
+        Judged::Gap(gap) => {
+            *out = [gap];
+            0
+        }
+        Judged::Refused(why) => code(why),
+    }
+}
+
+// Judges multipliers for impossibility.
+#[no_mangle]
+pub extern "C" fn fibergravel_judge_multipliers(tape: &[u8], multipliers: &[i32]) -> u64
+    ensures { λ r. ⌜ r ≡ shownCode (shown (now (tape .entry)) (now (multipliers .entry))) ⌝ }
+    ensures { λ r. ⌜ FoundedBy r (reading (now (tape .entry)) .tape) ⌝ }
+{
+    let answer = judge_multipliers(tape, multipliers);
+    match answer {
+        Shown::Shown => 0,
+        Shown::Refused(why) => code(why),
+    }
+}
+
+// Works out the plan of a tape. `out` then holds kind, rounds, gap and u(0).
+#[no_mangle]
+pub extern "C" fn fibergravel_solve(
+    tape: &[u8],
+    plan: &mut [i32],
+    multipliers: &mut [i32],
+    out: &mut [i64; 7],
+) -> u64
+    ensures { λ r. ⌜ r ≡ solvedCode (answerOf (reading (now (tape .entry)) .tape) (solving (now (tape .entry)) (now (plan .entry)) (now (multipliers .entry)))) ⌝ }
+    ensures { λ _. ⌜ now (out .exit) ≡ solvedLeft (answerOf (reading (now (tape .entry)) .tape) (solving (now (tape .entry)) (now (plan .entry)) (now (multipliers .entry)))) (now (out .entry)) ⌝ }
+    ensures { λ _. ⌜ now (plan .exit) ≡ planLeft (solving (now (tape .entry)) (now (plan .entry)) (now (multipliers .entry))) (now (plan .entry)) ⌝ }
+    ensures { λ _. ⌜ now (multipliers .exit) ≡ multipliersLeft (solving (now (tape .entry)) (now (plan .entry)) (now (multipliers .entry))) (now (multipliers .entry)) ⌝ }
+    ensures { λ r. ⌜ RoundsBy r (now (out .exit)) (reading (now (tape .entry)) .tape .rounds) ⌝ }
+    ensures { λ r. ⌜ AgainBy r (now (out .exit)) (now (tape .entry)) (now (plan .exit)) (now (multipliers .exit)) ⌝ }
+    ensures { λ r. ⌜ UpheldBy r (now (out .exit)) (reading (now (tape .entry)) .tape) (now (plan .exit)) ⌝ }
+{
+    let answer = solve(tape, plan, multipliers);
+    match answer {
+        Solved::Proved(rounds, gap, first) => {
+            *out = proved_numbers(rounds, gap, first);
+            0
+        }
+        Solved::Impossible(rounds) => {
+            *out = [2, rounds as i64, 0, 0, 0, 0, 0];
+            0
+        }
+        Solved::Refused(why) => code(why),
+    }
+}
+
+fn code(why: Refusal) -> u64
+    requires { ⌜ figure (row why .carries) ≤ 10000 ⌝ }
+    ensures { λ r. ⌜ r ≡ codeOf why ⌝ }
+{
+    (number(why) + 256 * carried(why)) as u64
+}
+
+// Puts numbers into `out` from a place on.
+fn put(out: &mut [i64; 118], first: usize, from: &[i64])
+    requires { ⌜ (length (now out) ≡ 118) × (first + length (now from) ≤ 118) ⌝ }
+    ensures { λ _. ⌜ (take (first + length (now (from .entry))) (now (out .exit)) ≡ take first (now (out .entry)) ++ now (from .entry)) × (length (now (out .exit)) ≡ 118) ⌝ }
+{
+    let mut j: usize = 0;
+    while j < from.len() {
+        out[first + j] = from[j];
+        j += 1;
+    }
+}
+
+fn numbers_of(t: Tape) -> [i64; 118]
+    requires { ⌜ Legal t ⌝ }
+    ensures { λ r. ⌜ r ≡ numbersOf t ⌝ }
+{
+    let mut out = [0i64; 118];
+    let sizes = [t.n as i64, t.m as i64, t.horizon as i64];
+    let rounds = [t.gain, t.rounds as i64, t.wanted];
+    put(&mut out, 0, &sizes);
+    put(&mut out, 3, &t.a);
+    put(&mut out, 39, &t.b);
+    put(&mut out, 63, &t.drift);
+    put(&mut out, 69, &t.low);
+    put(&mut out, 79, &t.high);
+    put(&mut out, 89, &t.reference);
+    put(&mut out, 99, &t.weight);
+    put(&mut out, 109, &t.start);
+    put(&mut out, 115, &rounds);
+    out
+}
+
+fn proved_numbers(rounds: usize, gap: i64, first: Duties) -> [i64; 7]
+    requires { ⌜ rounds ≤ 10000 ⌝ }
+    ensures { λ r. ⌜ r ≡ pos 1 ∷ pos rounds ∷ gap ∷ first .u0 ∷ first .u1 ∷ first .u2 ∷ first .u3 ∷ [] ⌝ }
+{
+    [
+        1,
+        rounds as i64,
+        gap,
+        first.u0 as i64,
+        first.u1 as i64,
+        first.u2 as i64,
+        first.u3 as i64,
+    ]
+}

@@ -2,9 +2,9 @@
 
 use std::collections::BTreeMap;
 
-use crate::calls::{judge_multipliers, judge_plan, read, solve, Solved};
+use crate::calls::{judge_multipliers, judge_plan, read, solve, Shown, Solved};
 use crate::generate::{case, Case, Kind};
-use crate::model::Furnace;
+use crate::model::{Furnace, Whole};
 use crate::refusal::Refusal;
 use crate::tape::{MOST_INPUTS, MOST_STATES, MOST_STEPS};
 
@@ -22,8 +22,8 @@ pub struct Counts {
 }
 
 impl Counts {
-    /// All headings and names, with counts of 0.
-    fn new() -> Counts {
+    /// The headings and names of all calls, with counts of 0.
+    pub fn of_calls() -> Counts {
         let mut counts = Counts::default();
         counts.expect("tape", Kind::ALL.map(|kind| format!("{kind:?}")));
         counts.expect("read", answers(&["accepted"], &[1, 2, 3, 4, 5, 6, 7, 8]));
@@ -56,7 +56,7 @@ impl Counts {
     }
 
     /// Adds a heading with its names.
-    fn expect(&mut self, heading: &str, names: impl IntoIterator<Item = String>) {
+    pub fn expect(&mut self, heading: &str, names: impl IntoIterator<Item = String>) {
         let names: Vec<String> = names.into_iter().collect();
         for name in &names {
             let key = (heading.to_string(), name.clone());
@@ -66,7 +66,7 @@ impl Counts {
     }
 
     /// Counts one. A name that no heading expects is a mistake of this program.
-    fn add(&mut self, heading: &str, name: &str) {
+    pub fn add(&mut self, heading: &str, name: &str) {
         let key = (heading.to_string(), name.to_string());
         *self
             .counts
@@ -91,31 +91,58 @@ impl Counts {
         self.add(&format!("{answer}, N"), &furnace.horizon.to_string());
     }
 
+    /// Counts a generated tape by its kind.
+    pub fn add_tape(&mut self, kind: Kind) {
+        self.add("tape", &format!("{kind:?}"));
+    }
+
+    /// Counts an answer of [`read`].
+    pub fn add_read(&mut self, answer: &Result<Furnace, Refusal>) {
+        let accepted = answer.as_ref().map(|_| "accepted");
+        self.add_answer("read", accepted.map_err(|refusal| *refusal));
+    }
+
+    /// Counts an answer of [`judge_plan`].
+    pub fn add_gap(&mut self, answer: Result<Whole, Refusal>) {
+        self.add_answer("judge plan", answer.map(|_| "gap"));
+    }
+
+    /// Counts an answer of [`judge_multipliers`].
+    pub fn add_shown(&mut self, answer: Result<Shown, Refusal>) {
+        self.add_answer("judge multipliers", answer.map(|_| "shown"));
+    }
+
+    /// Counts an answer of [`solve`], given what [`read`] says of the same tape.
+    pub fn add_solved(
+        &mut self,
+        answer: Result<Solved, Refusal>,
+        furnace: &Result<Furnace, Refusal>,
+    ) {
+        let answer = answer.map(|solved| match solved {
+            Solved::Proved { rounds, .. } => ("proved", rounds),
+            Solved::Impossible { rounds } => ("impossible", rounds),
+        });
+        self.add_answer("solve", answer.map(|(name, _)| name));
+        if let (Ok((name, rounds)), Ok(furnace)) = (answer, furnace) {
+            self.add_rounds(name, rounds, furnace);
+        }
+    }
+
     /// Runs one case through all calls and counts the answers.
     fn add_case(&mut self, case: &Case) {
         let tape = &case.tape.bytes;
-        self.add("tape", &format!("{:?}", case.tape.kind));
+        self.add_tape(case.tape.kind);
         let furnace = read(tape);
-        let accepted = furnace.as_ref().map(|_| "accepted");
-        self.add_answer("read", accepted.map_err(|refusal| *refusal));
+        self.add_read(&furnace);
         for lent in &case.judged {
-            let gap = judge_plan(tape, &lent.plan, &lent.multipliers);
-            self.add_answer("judge plan", gap.map(|_| "gap"));
-            let shown = judge_multipliers(tape, &lent.multipliers);
-            self.add_answer("judge multipliers", shown.map(|_| "shown"));
+            self.add_gap(judge_plan(tape, &lent.plan, &lent.multipliers));
+            self.add_shown(judge_multipliers(tape, &lent.multipliers));
         }
         for lent in &case.solved {
             let mut plan = lent.plan.clone();
             let mut multipliers = lent.multipliers.clone();
             let solved = solve(tape, &mut plan, &mut multipliers);
-            let answer = solved.map(|solved| match solved {
-                Solved::Proved { rounds, .. } => ("proved", rounds),
-                Solved::Impossible { rounds } => ("impossible", rounds),
-            });
-            self.add_answer("solve", answer.map(|(name, _)| name));
-            if let (Ok((name, rounds)), Ok(furnace)) = (answer, &furnace) {
-                self.add_rounds(name, rounds, furnace);
-            }
+            self.add_solved(solved, &furnace);
         }
     }
 
@@ -152,12 +179,12 @@ impl Counts {
 }
 
 /// The name under which a refusal is counted.
-fn refused(number: u32) -> String {
+pub fn refused(number: u32) -> String {
     format!("refused {number}")
 }
 
 /// The names of a call's answers and refusals.
-fn answers(words: &[&str], refusals: &[u32]) -> Vec<String> {
+pub fn answers(words: &[&str], refusals: &[u32]) -> Vec<String> {
     let words = words.iter().map(|word| word.to_string());
     words
         .chain(refusals.iter().map(|number| refused(*number)))
@@ -171,7 +198,7 @@ fn up_to(most: usize) -> Vec<String> {
 
 /// Runs the cases of `count` seeds from `first_seed` on.
 pub fn count_cases(count: u64, first_seed: u64) -> Counts {
-    let mut counts = Counts::new();
+    let mut counts = Counts::of_calls();
     for place in 0..count {
         counts.add_case(&case(first_seed.wrapping_add(place)));
     }

@@ -11,13 +11,18 @@ use crate::tape::{
 };
 
 /// The largest T.
-const MOST_GAP: Whole = 0xffff_ffff;
+pub const MOST_GAP: Whole = 0xffff_ffff;
 
 /// A furnace of random sizes. Its weights, g and R are 1, all other numbers 0.
 fn blank(random: &mut Random) -> Furnace {
     let states = 1 + random.below(MOST_STATES);
     let inputs = 1 + random.below(MOST_INPUTS);
     let horizon = 1 + random.below(MOST_STEPS);
+    sized(states, inputs, horizon)
+}
+
+/// [`blank`] of the given sizes.
+fn sized(states: usize, inputs: usize, horizon: usize) -> Furnace {
     let column = Column {
         lo: 0,
         hi: 0,
@@ -119,7 +124,20 @@ pub fn limits(random: &mut Random) -> Furnace {
 
 /// A furnace that stays near its references under its reference inputs, as real ones do.
 fn near_rest(random: &mut Random) -> Furnace {
-    let mut furnace = blank(random);
+    let furnace = blank(random);
+    put_near_rest(furnace, random)
+}
+
+/// A furnace of the largest sizes near its references, with a converging g. R is 1, T is 0.
+pub fn largest(random: &mut Random) -> Furnace {
+    let furnace = sized(MOST_STATES, MOST_INPUTS, MOST_STEPS);
+    let mut furnace = put_near_rest(furnace, random);
+    furnace.step_size = tuned_step_size(&furnace, 1, 1);
+    furnace
+}
+
+/// A blank furnace with the numbers of one near rest.
+fn put_near_rest(mut furnace: Furnace, random: &mut Random) -> Furnace {
     let deviation = random.choose(&[2, 10, 40, 150, 400]);
     let most_weight = random.choose(&[1, 4, 20, MOST_WEIGHT]);
     let input_span = random.choose(&[10, 40, 200, 1000]);
@@ -199,15 +217,15 @@ fn tuned_step_size(furnace: &Furnace, numerator: Whole, denominator: Whole) -> W
 }
 
 /// What a trial of the rounds showed.
-struct Trial {
+pub struct Trial {
     /// Rounds entered, and the gap, of each candidate with a smaller gap than all before it.
-    records: Vec<(u32, Whole)>,
+    pub records: Vec<(u32, Whole)>,
     /// Rounds entered up to 'impossible', if it came.
-    impossible: Option<u32>,
+    pub impossible: Option<u32>,
 }
 
 /// Runs at most `most` rounds that cannot end with 'proved'.
-fn trial(furnace: &Furnace, most: u32) -> Trial {
+pub fn trial(furnace: &Furnace, most: u32) -> Trial {
     let mut furnace = furnace.clone();
     furnace.rounds = most;
     // No gap is below 0.

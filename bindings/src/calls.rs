@@ -1,0 +1,106 @@
+//! The four calls with the numbers that they answer, one to one with C's.
+//!
+//! Each answers 0 where it has a result, which is then in `out`; else the refusal's number +
+//! 256 × what it carries, and then nothing that was lent has changed, `out` included.
+//! [`crate::Refusal::from_answer`] reads such an answer. The calls ask nothing of what they are
+//! lent: slices of any length, with any numbers.
+
+mod foreign {
+    extern "C" {
+        pub fn fibergravel_read(tape: *const u8, tape_len: usize, out: *mut i64) -> u64;
+        pub fn fibergravel_judge_plan(
+            tape: *const u8,
+            tape_len: usize,
+            plan: *const i32,
+            plan_len: usize,
+            multipliers: *const i32,
+            multipliers_len: usize,
+            out: *mut i64,
+        ) -> u64;
+        pub fn fibergravel_judge_multipliers(
+            tape: *const u8,
+            tape_len: usize,
+            multipliers: *const i32,
+            multipliers_len: usize,
+        ) -> u64;
+        pub fn fibergravel_solve(
+            tape: *const u8,
+            tape_len: usize,
+            plan: *mut i32,
+            plan_len: usize,
+            multipliers: *mut i32,
+            multipliers_len: usize,
+            out: *mut i64,
+        ) -> u64;
+    }
+}
+
+/// How many numbers [`read`] writes.
+pub const READ_NUMBERS: usize = 118;
+
+/// How many numbers [`solve`] writes.
+pub const SOLVE_NUMBERS: usize = 7;
+
+/// Reads a tape. `out`: n, m, N, A by rows of 6 (36), B by rows of 4 (24), w (6), lo (10), hi
+/// (10), r (10), h (10), x(0) (6), g, R, T; columns are states, then inputs, and places beyond
+/// the tape's sizes are 0.
+pub fn read(tape: &[u8], out: &mut [i64; READ_NUMBERS]) -> u64 {
+    // SAFETY: the tape's pointer and length are one slice's, and `out` has the places that the
+    // call writes. It keeps no pointer.
+    unsafe { foreign::fibergravel_read(tape.as_ptr(), tape.len(), out.as_mut_ptr()) }
+}
+
+/// Judges a plan with multipliers. `out`: the gap.
+pub fn judge_plan(tape: &[u8], plan: &[i32], multipliers: &[i32], out: &mut [i64; 1]) -> u64 {
+    // SAFETY: each pointer and the length after it are one slice's, read only, and `out` has the
+    // one place that the call writes. It keeps no pointer.
+    unsafe {
+        foreign::fibergravel_judge_plan(
+            tape.as_ptr(),
+            tape.len(),
+            plan.as_ptr(),
+            plan.len(),
+            multipliers.as_ptr(),
+            multipliers.len(),
+            out.as_mut_ptr(),
+        )
+    }
+}
+
+/// Judges multipliers for impossibility. The answer 0 is the word 'shown'.
+pub fn judge_multipliers(tape: &[u8], multipliers: &[i32]) -> u64 {
+    // SAFETY: each pointer and the length after it are one slice's, read only. The call keeps no
+    // pointer.
+    unsafe {
+        foreign::fibergravel_judge_multipliers(
+            tape.as_ptr(),
+            tape.len(),
+            multipliers.as_ptr(),
+            multipliers.len(),
+        )
+    }
+}
+
+/// Solves. `out`: the kind (1 proved, 2 impossible), rounds, gap and u(0) in four places; what an
+/// answer lacks is 0. 'Proved' fills both slices, 'impossible' the multipliers only.
+pub fn solve(
+    tape: &[u8],
+    plan: &mut [i32],
+    multipliers: &mut [i32],
+    out: &mut [i64; SOLVE_NUMBERS],
+) -> u64 {
+    // SAFETY: each pointer and the length after it are one slice's, the three that are written
+    // are lent mutably and so lie apart, and `out` has the places that the call writes. It keeps
+    // no pointer.
+    unsafe {
+        foreign::fibergravel_solve(
+            tape.as_ptr(),
+            tape.len(),
+            plan.as_mut_ptr(),
+            plan.len(),
+            multipliers.as_mut_ptr(),
+            multipliers.len(),
+            out.as_mut_ptr(),
+        )
+    }
+}

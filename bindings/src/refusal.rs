@@ -1,0 +1,195 @@
+//! The refusals, 1 to 15.
+
+use std::error::Error;
+use std::fmt;
+
+/// Why a call gives no answer. Each case holds what the refusal carries.
+#[derive(Clone, Copy, Debug, PartialEq, Eq, Hash)]
+pub enum Refusal {
+    /// 1: the tape ends inside a command, or before FF.
+    Cut {
+        /// Of the command byte; before FF, the tape's length.
+        offset: u64,
+    },
+    /// 2: a command byte that is not in the table of commands.
+    Unknown {
+        /// Of the command byte.
+        offset: u64,
+    },
+    /// 3: the first command is not 10, or a second 10.
+    Misplaced {
+        /// Of the command byte.
+        offset: u64,
+    },
+    /// 4: an index outside the size.
+    NoSuchPlace {
+        /// Of the command byte.
+        offset: u64,
+    },
+    /// 5: an operand outside its range, or lo > hi.
+    OutOfRange {
+        /// Of the command byte.
+        offset: u64,
+    },
+    /// 6: the same place, or 50, given again.
+    Twice {
+        /// Of the command byte.
+        offset: u64,
+    },
+    /// 7: at FF, something required was not given.
+    Absent {
+        /// Of FF.
+        offset: u64,
+    },
+    /// 8: bytes after FF.
+    Overrun {
+        /// The offset after FF.
+        offset: u64,
+    },
+    /// 9: a lent slice has not the length that the tape's sizes ask for.
+    Length,
+    /// 10: a state of the plan differs from the model.
+    OffModel,
+    /// 11: a plan number outside lo to hi.
+    OverLimit,
+    /// 12: a multiplier outside its range.
+    Multiplier,
+    /// 13: the gap is above T.
+    Wide,
+    /// 14: the multipliers do not show impossibility.
+    NotShown,
+    /// 15: R rounds without 'proved' or 'impossible'.
+    Open {
+        /// The tape's R.
+        rounds: u64,
+    },
+    /// An answer that is not in the table of refusals, or a result that is none. A libplanner.a
+    /// of this repository never gives one; another library might.
+    Unlisted {
+        /// The number that was answered, or the kind of the result.
+        answer: u64,
+    },
+}
+
+impl Refusal {
+    /// The refusal that an answer of [`crate::calls`] means; none for 0, which is no refusal.
+    pub fn from_answer(answer: u64) -> Option<Refusal> {
+        let (number, carried) = (answer % 256, answer / 256);
+        let offset = carried;
+        let refusal = match number {
+            _ if answer == 0 => return None,
+            1 => Refusal::Cut { offset },
+            2 => Refusal::Unknown { offset },
+            3 => Refusal::Misplaced { offset },
+            4 => Refusal::NoSuchPlace { offset },
+            5 => Refusal::OutOfRange { offset },
+            6 => Refusal::Twice { offset },
+            7 => Refusal::Absent { offset },
+            8 => Refusal::Overrun { offset },
+            9 if carried == 0 => Refusal::Length,
+            10 if carried == 0 => Refusal::OffModel,
+            11 if carried == 0 => Refusal::OverLimit,
+            12 if carried == 0 => Refusal::Multiplier,
+            13 if carried == 0 => Refusal::Wide,
+            14 if carried == 0 => Refusal::NotShown,
+            15 => Refusal::Open { rounds: carried },
+            _ => Refusal::Unlisted { answer },
+        };
+        Some(refusal)
+    }
+
+    /// Document 01's number, word and carried number of the refusal.
+    fn entry(self) -> (u64, &'static str, Option<u64>) {
+        match self {
+            Refusal::Cut { offset } => (1, "cut", Some(offset)),
+            Refusal::Unknown { offset } => (2, "unknown", Some(offset)),
+            Refusal::Misplaced { offset } => (3, "misplaced", Some(offset)),
+            Refusal::NoSuchPlace { offset } => (4, "no such place", Some(offset)),
+            Refusal::OutOfRange { offset } => (5, "out of range", Some(offset)),
+            Refusal::Twice { offset } => (6, "twice", Some(offset)),
+            Refusal::Absent { offset } => (7, "absent", Some(offset)),
+            Refusal::Overrun { offset } => (8, "overrun", Some(offset)),
+            Refusal::Length => (9, "length", None),
+            Refusal::OffModel => (10, "off model", None),
+            Refusal::OverLimit => (11, "over limit", None),
+            Refusal::Multiplier => (12, "multiplier", None),
+            Refusal::Wide => (13, "wide", None),
+            Refusal::NotShown => (14, "not shown", None),
+            Refusal::Open { rounds } => (15, "open", Some(rounds)),
+            Refusal::Unlisted { answer } => (answer % 256, "unlisted", Some(answer / 256)),
+        }
+    }
+
+    /// The number, 1 to 15.
+    pub fn number(self) -> u64 {
+        self.entry().0
+    }
+
+    /// The word in document 01's table.
+    pub fn word(self) -> &'static str {
+        self.entry().1
+    }
+
+    /// An offset for 1 to 8, R for 15, nothing for 9 to 14.
+    pub fn carried(self) -> Option<u64> {
+        self.entry().2
+    }
+}
+
+impl fmt::Display for Refusal {
+    fn fmt(&self, f: &mut fmt::Formatter<'_>) -> fmt::Result {
+        let (number, word, carried) = self.entry();
+        write!(f, "refused {number} ({word})")?;
+        match (self, carried) {
+            (_, None) => Ok(()),
+            (Refusal::Open { rounds }, _) => write!(f, " after {rounds} rounds"),
+            (_, Some(offset)) => write!(f, " at {offset}"),
+        }
+    }
+}
+
+impl Error for Refusal {}
+
+#[cfg(test)]
+mod tests {
+    use super::*;
+
+    #[test]
+    fn each_number_gives_its_refusal() {
+        for number in 1..=15 {
+            let carried = if (9..=14).contains(&number) { 0 } else { 463 };
+            let refusal = Refusal::from_answer(number + 256 * carried).expect("no 0");
+            assert_eq!(refusal.number(), number);
+            assert_eq!(refusal.carried().unwrap_or(0), carried);
+            assert_ne!(refusal.word(), "unlisted");
+        }
+        assert_eq!(
+            Refusal::from_answer(6 + 256 * 463),
+            Some(Refusal::Twice { offset: 463 })
+        );
+        assert_eq!(Refusal::from_answer(9), Some(Refusal::Length));
+        assert_eq!(
+            Refusal::from_answer(15 + 256 * 10_000),
+            Some(Refusal::Open { rounds: 10_000 })
+        );
+    }
+
+    #[test]
+    fn all_other_answers_are_unlisted() {
+        assert_eq!(Refusal::from_answer(0), None);
+        for answer in [16, 255, 256, 9 + 256, 14 + 256, u64::MAX] {
+            assert_eq!(
+                Refusal::from_answer(answer),
+                Some(Refusal::Unlisted { answer })
+            );
+        }
+    }
+
+    #[test]
+    fn refusals_as_text() {
+        let text = |answer| Refusal::from_answer(answer).expect("no 0").to_string();
+        assert_eq!(text(7 + 256 * 36), "refused 7 (absent) at 36");
+        assert_eq!(text(13), "refused 13 (wide)");
+        assert_eq!(text(15 + 256 * 5), "refused 15 (open) after 5 rounds");
+    }
+}

@@ -1,0 +1,194 @@
+//! One call on both sides: by the planner between guard cells, and by the second program.
+
+use fibergravel::calls;
+use reference::cases::read_numbers;
+use reference::{
+    judge_multipliers, judge_plan, read, solve, Furnace, Refusal, Shown, Solved, Whole,
+};
+
+use crate::guard::{marks, Guarded, GUARD};
+
+/// The four calls.
+#[derive(Clone, Copy, Debug, PartialEq, Eq)]
+pub enum Call {
+    /// Reads a tape.
+    Read,
+    /// Judges a plan with multipliers.
+    JudgePlan,
+    /// Judges multipliers for impossibility.
+    JudgeMultipliers,
+    /// Solves.
+    Solve,
+}
+
+impl Call {
+    /// The four.
+    pub const ALL: [Call; 4] = [
+        Call::Read,
+        Call::JudgePlan,
+        Call::JudgeMultipliers,
+        Call::Solve,
+    ];
+
+    /// How many numbers the call's `out` has.
+    fn out_length(self) -> usize {
+        match self {
+            Call::Read => calls::READ_NUMBERS,
+            Call::JudgePlan => 1,
+            Call::JudgeMultipliers => 0,
+            Call::Solve => calls::SOLVE_NUMBERS,
+        }
+    }
+}
+
+/// What a call is lent. [`Call::Read`] takes the tape alone, [`Call::JudgeMultipliers`] no plan.
+#[derive(Clone, Copy, Debug)]
+pub struct Lending<'a> {
+    /// The tape's bytes.
+    pub tape: &'a [u8],
+    /// The bytes that stand behind the tape in memory. No answer may depend on them.
+    pub behind: &'a [u8],
+    /// The lent plan.
+    pub plan: &'a [i32],
+    /// The lent multipliers.
+    pub multipliers: &'a [i32],
+}
+
+/// FF behind a tape, which an end before FF would take for its own.
+const ENDS: [u8; GUARD] = [0xff; GUARD];
+
+impl<'a> Lending<'a> {
+    /// A tape and slices with [`ENDS`] behind the tape.
+    pub fn new(tape: &'a [u8], plan: &'a [i32], multipliers: &'a [i32]) -> Lending<'a> {
+        Lending {
+            tape,
+            behind: &ENDS,
+            plan,
+            multipliers,
+        }
+    }
+}
+
+/// What a call left: its answer and all numbers that were lent.
+#[derive(Clone, Debug, PartialEq, Eq)]
+pub struct Left {
+    /// 0, or the refusal's number + 256 × what it carries.
+    pub answer: u64,
+    /// `out`, which holds marks before the call.
+    pub out: Vec<i64>,
+    /// The lent plan.
+    pub plan: Vec<i32>,
+    /// The lent multipliers.
+    pub multipliers: Vec<i32>,
+    /// Is all else as it was: the tape and the cells beside everything that was lent?
+    pub rest_holds: bool,
+}
+
+/// The planner's side.
+pub fn by_planner(call: Call, lending: &Lending) -> Left {
+    let tape = Guarded::between(&ENDS, lending.tape, lending.behind);
+    let mut plan = Guarded::marked(lending.plan);
+    let mut multipliers = Guarded::marked(lending.multipliers);
+    let (answer, out) = match call {
+        Call::Read => with_out(|out| calls::read(tape.lent(), out)),
+        Call::JudgePlan => {
+            with_out(|out| calls::judge_plan(tape.lent(), plan.lent(), multipliers.lent(), out))
+        }
+        Call::JudgeMultipliers => {
+            with_out(|_: &mut [i64; 0]| calls::judge_multipliers(tape.lent(), multipliers.lent()))
+        }
+        Call::Solve => {
+            with_out(|out| calls::solve(tape.lent(), plan.lent_mut(), multipliers.lent_mut(), out))
+        }
+    };
+    Left {
+        answer,
+        rest_holds: tape.all_hold()
+            && plan.guards_hold()
+            && multipliers.guards_hold()
+            && out.guards_hold(),
+        out: out.lent().to_vec(),
+        plan: plan.lent().to_vec(),
+        multipliers: multipliers.lent().to_vec(),
+    }
+}
+
+/// Calls with an `out` of marks, and gives the answer and `out`.
+fn with_out<const COUNT: usize>(
+    call: impl FnOnce(&mut [i64; COUNT]) -> u64,
+) -> (u64, Guarded<i64>) {
+    let mut out = Guarded::marked(&marks(COUNT));
+    let lent = out.lent_mut().try_into().expect("COUNT cells are lent");
+    (call(lent), out)
+}
+
+/// An answer of the second program.
+#[derive(Clone, Debug, PartialEq, Eq)]
+pub enum Answer {
+    /// Of [`Call::Read`].
+    Read(Result<Furnace, Refusal>),
+    /// Of [`Call::JudgePlan`].
+    Gap(Result<Whole, Refusal>),
+    /// Of [`Call::JudgeMultipliers`].
+    Shown(Result<Shown, Refusal>),
+    /// Of [`Call::Solve`].
+    Solved(Result<Solved, Refusal>),
+}
+
+/// The second program's side.
+pub fn by_reference(call: Call, lending: &Lending) -> (Answer, Left) {
+    let tape = lending.tape;
+    let mut plan = lending.plan.to_vec();
+    let mut multipliers = lending.multipliers.to_vec();
+    let answer = match call {
+        Call::Read => Answer::Read(read(tape)),
+        Call::JudgePlan => Answer::Gap(judge_plan(tape, &plan, &multipliers)),
+        Call::JudgeMultipliers => Answer::Shown(judge_multipliers(tape, &multipliers)),
+        Call::Solve => Answer::Solved(solve(tape, &mut plan, &mut multipliers)),
+    };
+    let (number, out) = match numbers(&answer) {
+        Ok(out) => (0, out),
+        Err(refusal) => (refused(refusal), marks(call.out_length())),
+    };
+    let left = Left {
+        answer: number,
+        out,
+        plan,
+        multipliers,
+        rest_holds: true,
+    };
+    (answer, left)
+}
+
+/// The number that a call answers with a refusal.
+fn refused(refusal: Refusal) -> u64 {
+    u64::from(refusal.number()) + 256 * refusal.carried().unwrap_or(0) as u64
+}
+
+/// What `out` holds after a result.
+fn numbers(answer: &Answer) -> Result<Vec<i64>, Refusal> {
+    match answer {
+        Answer::Read(read) => {
+            let furnace = read.as_ref().map_err(|refusal| *refusal)?;
+            Ok(read_numbers(furnace).into_iter().map(narrow).collect())
+        }
+        Answer::Gap(gap) => Ok(vec![narrow((*gap)?)]),
+        Answer::Shown(shown) => {
+            let Shown = (*shown)?;
+            Ok(Vec::new())
+        }
+        Answer::Solved(solved) => Ok(match (*solved)? {
+            Solved::Proved { rounds, gap, first } => {
+                let mut out = vec![1, i64::from(rounds), narrow(gap)];
+                out.extend(first.map(i64::from));
+                out
+            }
+            Solved::Impossible { rounds } => vec![2, i64::from(rounds), 0, 0, 0, 0, 0],
+        }),
+    }
+}
+
+/// Document 01: no sum passes 5 × 10^18.
+pub fn narrow(number: Whole) -> i64 {
+    i64::try_from(number).expect("a number of an answer fits 64 bits")
+}

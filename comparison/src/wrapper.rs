@@ -1,0 +1,103 @@
+//! The same calls through the safe wrapper's own types.
+
+use fibergravel as planner;
+use reference::cases::read_numbers;
+use reference::{Refusal, Solved};
+
+use crate::calls::{narrow, Answer, Call, Left, Lending};
+
+/// What the wrapper says, as a text, where it differs from the second program.
+pub fn difference(call: Call, lending: &Lending, answer: &Answer, left: &Left) -> Option<String> {
+    let tape = lending.tape;
+    let mut plan = lending.plan.to_vec();
+    let mut multipliers = lending.multipliers.to_vec();
+    let (same, text) = match (call, answer) {
+        (Call::Read, Answer::Read(expected)) => {
+            let found = planner::read(tape);
+            let same = match (&found, expected) {
+                (Ok(found), Ok(expected)) => {
+                    let expected = read_numbers(expected).into_iter().map(narrow);
+                    numbers(found).into_iter().eq(expected)
+                }
+                (Err(found), Err(expected)) => same_refusal(*found, *expected),
+                _ => false,
+            };
+            (same, format!("{found:?}"))
+        }
+        (Call::JudgePlan, Answer::Gap(expected)) => {
+            let found = planner::judge_plan(tape, &plan, &multipliers);
+            let same = match (found, *expected) {
+                (Ok(found), Ok(expected)) => found == narrow(expected),
+                (Err(found), Err(expected)) => same_refusal(found, expected),
+                _ => false,
+            };
+            (same, format!("{found:?}"))
+        }
+        (Call::JudgeMultipliers, Answer::Shown(expected)) => {
+            let found = planner::judge_multipliers(tape, &multipliers);
+            let same = match (found, *expected) {
+                (Ok(planner::Shown), Ok(reference::Shown)) => true,
+                (Err(found), Err(expected)) => same_refusal(found, expected),
+                _ => false,
+            };
+            (same, format!("{found:?}"))
+        }
+        (Call::Solve, Answer::Solved(expected)) => {
+            let found = planner::solve(tape, &mut plan, &mut multipliers);
+            let same = match (found, *expected) {
+                (Ok(found), Ok(expected)) => found == as_planner(expected),
+                (Err(found), Err(expected)) => same_refusal(found, expected),
+                _ => false,
+            };
+            (same, format!("{found:?}"))
+        }
+        _ => (false, "an answer of another call".to_string()),
+    };
+    if same && plan == left.plan && multipliers == left.multipliers {
+        return None;
+    }
+    Some(format!(
+        "{text}, plan {plan:?}, multipliers {multipliers:?}"
+    ))
+}
+
+/// Number and carried number are equal.
+fn same_refusal(found: planner::Refusal, expected: Refusal) -> bool {
+    let carried = expected.carried().map(|carried| carried as u64);
+    found.number() == u64::from(expected.number())
+        && found.carried() == carried
+        && found.word() == expected.word()
+}
+
+/// The second program's answer in the wrapper's type.
+fn as_planner(solved: Solved) -> planner::Solved {
+    match solved {
+        Solved::Proved { rounds, gap, first } => planner::Solved::Proved {
+            rounds: i64::from(rounds),
+            gap: narrow(gap),
+            first: first.map(i64::from),
+        },
+        Solved::Impossible { rounds } => planner::Solved::Impossible {
+            rounds: i64::from(rounds),
+        },
+    }
+}
+
+/// A tape's numbers in the order of the call.
+fn numbers(tape: &planner::Tape) -> Vec<i64> {
+    let sizes = [tape.states, tape.inputs, tape.steps].map(|size| size as i64);
+    let search = [tape.step_size, tape.rounds, tape.wanted_gap];
+    [
+        &sizes,
+        tape.a.as_flattened(),
+        tape.b.as_flattened(),
+        &tape.drift,
+        &tape.lo,
+        &tape.hi,
+        &tape.reference,
+        &tape.weight,
+        &tape.start,
+        &search,
+    ]
+    .concat()
+}

@@ -9,7 +9,7 @@
  * writes is read or written by another at that time. What a call writes (`out`; plan and multipliers
  * of fibergravel_solve) overlaps nothing else that is passed to it. Pointers are never NULL, also
  * where the length is 0, and are aligned as their type asks, no more. Lengths count elements.
- * A call's own memory is on the stack, a few tens of kilobytes.
+ * A call needs less than 64 kilobytes of stack.
  *
  * Results. Each call returns 0 where it has a result, which is then in `out`. Otherwise it returns a
  * refusal, and then no lent number has changed, those of `out` included. The low 8 bits of a refusal

@@ -1,10 +1,10 @@
 -- The figures of an answer are at most 10,000, so that a refusal's code, and the rounds, fit their words.
 use Prim.Native.Nat.{ℕ, zero, suc, _+_, _≤_}
 use mathlib.Core.Path.{_≡_, refl}
-use mathlib.Core.Bool.{Bool, true, false, cond, _||_}
+use mathlib.Core.Bool.{Bool, cond, _||_}
 use mathlib.Core.List.{List}
 use native.Mathlib.Omega.{arith}
-use lib.IntN.{ℤ, _-ℤ_}
+use lib.IntN.{ℤ}
 use lib.Signed.{ltZ}
 use Rattle.integer.proofs.Operand.{Bytes}
 use Rattle.tape.specs.declared.Answer.{Answer}
@@ -20,7 +20,6 @@ use Rattle.tape.proofs.Facts.{legal}
 use Rattle.tape.proofs.Offsets.{Carrying, carrying}
 use Rattle.tape.proofs.Tests.{by-test}
 use Rattle.problem.specs.Model.{Problem, Plan, problemOf, planOf, multipliersOf, rounded}
-use Rattle.problem.specs.Cost.{planCost}
 use Rattle.problem.specs.Dual.{floor, floorOf, ceiling}
 use Rattle.judge.specs.declared.Judged.{Judged}
 use Rattle.judge.specs.declared.Judged.the-variants as judging

@@ -10,6 +10,7 @@ use Rattle.integer.specs.Sum.{sum}
 use Rattle.integer.proofs.Ring.{ring, _⊕_, _⊖_, _≐_}
 use Rattle.integer.proofs.Sizes.{size-add, Formed, formed}
 use Rattle.integer.proofs.Sum.{size-sum}
+use Rattle.tape.specs.Ranges.{mostEntry, mostDrift, mostNumber, mostMultiplier}
 use Rattle.problem.specs.Cost.{total, cost, planCost}
 use Rattle.problem.specs.Model.{Problem}
 use Rattle.problem.specs.Dual.{inputSlope, stateSlope, piece, pieces, constant, sizes, floor}
@@ -28,7 +29,7 @@ size-total N {B} f g l a b =
     omega (arith, h, mul-le-mul-right (4 * B + 6 * B) l)
 
 module _ {penalty low high reference : List ℤ} (tables : Tables penalty low high reference) (N : ℕ) (l : N ≤ 12) where
-  pub size-plan-cost : {v : List ℤ} → Bounded 20000 v →
+  pub size-plan-cost : {v : List ℤ} → Bounded mostNumber v →
       natAbs (planCost (paddedProblem N [] [] [] [] penalty low high reference) (paddedPlan v)) ≤ 200540160000000000
   unfolding planCost cost
   size-plan-cost {v} b =
@@ -38,8 +39,8 @@ module _ {penalty low high reference : List ℤ} (tables : Tables penalty low hi
       one p h = size-cost (near (tables .each p h) (at v p) (b .each p))
 
   -- the code adds the pieces, from the slopes s, and the constant less the allowance: that is the floor, and it fits
-  module _ {a b drift start y : List ℤ} (ha : Bounded 16384 a) (hb : Bounded 16384 b) (hw : Bounded 16777216 drift) (hs : Bounded 20000 start)
-      (hy : Bounded 16777216 y) where
+  module _ {a b drift start y : List ℤ} (ha : Bounded mostEntry a) (hb : Bounded mostEntry b) (hw : Bounded mostDrift drift) (hs : Bounded mostNumber start)
+      (hy : Bounded mostMultiplier y) where
     abbrev q : Problem
     q = paddedProblem N a b drift start penalty low high reference
 

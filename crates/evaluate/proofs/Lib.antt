@@ -5,3 +5,4 @@ pub mod LinearSizes
 pub mod TermSizes
 pub mod TermTables
 pub mod FloorSizes
+pub mod Held

@@ -12,6 +12,7 @@ use Rattle.integer.specs.Sum.{sum}
 use Rattle.integer.proofs.Sizes.{size-add, size-sub, size-mul}
 use Rattle.integer.proofs.Sum.{sum-cong, size-sum}
 use Rattle.integer.proofs.Places.{steps-bounded}
+use Rattle.tape.specs.Ranges.{mostEntry, mostDrift, mostNumber, mostMultiplier}
 use Rattle.problem.specs.Model.{stateAt, modelSum}
 use Rattle.problem.specs.Dual.{inputSlope, carried, stateSlope, constant, sizes}
 use Rattle.evaluate.specs.Padded.{stateMatrix, inputMatrix, padded, paddedPlan, byPlace, paddedProblem}
@@ -32,12 +33,12 @@ size-products {A} {B} hx hy n f g = size-sum n (A * B) _ (λ q _. size-product-a
 
 -- ---- Slopes
 
-pub size-inputSlope : {b y : List ℤ} → Bounded 16384 b → Bounded 16777216 y → (k j : ℕ) →
+pub size-inputSlope : {b y : List ℤ} → Bounded mostEntry b → Bounded mostMultiplier y → (k j : ℕ) →
     natAbs (inputSlope 6 (inputMatrix b) (padded y) k j) ≤ 1649267441664
 unfolding inputSlope
 size-inputSlope hb hy k j = size-products hy hb 6 (λ i. 6 * k + i) (λ i. 4 * i + j)
 
-pub size-carried : {a y : List ℤ} → Bounded 16384 a → Bounded 16777216 y → (horizon k i : ℕ) →
+pub size-carried : {a y : List ℤ} → Bounded mostEntry a → Bounded mostMultiplier y → (horizon k i : ℕ) →
     natAbs (carried 6 horizon (stateMatrix a) (padded y) k i) ≤ 1649267441664
 unfolding carried
 size-carried {a} {y} ha hy horizon k i = go (ltb (k + 1) horizon)
@@ -46,10 +47,10 @@ size-carried {a} {y} ha hy horizon k i = go (ltb (k + 1) horizon)
     go true = size-products hy ha 6 (λ q. 6 * (k + 1) + q) (λ q. 6 * q + i)
     go false = omega arith
 
-pub size-scaled : {y : List ℤ} → Bounded 16777216 y → (p : ℕ) → natAbs (negsuc 4095 *ℤ at y p) ≤ 68719476736
+pub size-scaled : {y : List ℤ} → Bounded mostMultiplier y → (p : ℕ) → natAbs (negsuc 4095 *ℤ at y p) ≤ 68719476736
 size-scaled {y} hy p = size-mul (negsuc 4095) (at y p) (le-refl 4096) (hy .each p)
 
-pub size-stateSlope : {a y : List ℤ} → Bounded 16384 a → Bounded 16777216 y → (horizon k i : ℕ) →
+pub size-stateSlope : {a y : List ℤ} → Bounded mostEntry a → Bounded mostMultiplier y → (horizon k i : ℕ) →
     natAbs (stateSlope 6 horizon (stateMatrix a) (padded y) k i) ≤ 1717986918400
 unfolding stateSlope
 size-stateSlope {a} {y} ha hy horizon k i =
@@ -69,7 +70,7 @@ size-byPlace {B} f g hf hg k c = go (ltb c 4)
 abbrev pub slopeAt : List ℤ → List ℤ → List ℤ → ℕ → ℕ → ℕ → ℤ
 slopeAt a b y horizon = byPlace (inputSlope 6 (inputMatrix b) (padded y)) (stateSlope 6 horizon (stateMatrix a) (padded y))
 
-pub slopes-bounded : {a b y s : List ℤ} (horizon : ℕ) → Bounded 16384 a → Bounded 16384 b → Bounded 16777216 y →
+pub slopes-bounded : {a b y s : List ℤ} (horizon : ℕ) → Bounded mostEntry a → Bounded mostEntry b → Bounded mostMultiplier y →
     Steps 10 horizon (slopeAt a b y horizon) s → Bounded 1717986918400 s
 slopes-bounded horizon ha hb hy steps =
     steps-bounded 10 horizon _ _ (omega arith) steps
@@ -77,7 +78,7 @@ slopes-bounded horizon ha hb hy steps =
 
 -- ---- The model
 
-size-stateAt : {start v : List ℤ} → Bounded 20000 start → Bounded 20000 v → (k j : ℕ) → natAbs (stateAt (at start) (paddedPlan v .x) k j) ≤ 20000
+size-stateAt : {start v : List ℤ} → Bounded mostNumber start → Bounded mostNumber v → (k j : ℕ) → natAbs (stateAt (at start) (paddedPlan v .x) k j) ≤ mostNumber
 unfolding stateAt
 size-stateAt hs hv zero j = hs .each j
 size-stateAt hs hv (suc k) j = hv .each (10 * k + (4 + j))
@@ -99,8 +100,8 @@ residualAt a b drift start v k i = modelAt a b drift start v k i -ℤ pos 4096 *
 pub size-units : {B : ℕ} {l : List ℤ} → Bounded B l → (p : ℕ) → natAbs (pos 4096 *ℤ at l p) ≤ 4096 * B
 size-units {l = l} b p = size-mul (pos 4096) (at l p) (le-refl 4096) (b .each p)
 
-module _ {a b drift start v : List ℤ} (ha : Bounded 16384 a) (hb : Bounded 16384 b) (hw : Bounded 16777216 drift)
-    (hs : Bounded 20000 start) (hv : Bounded 20000 v) (k i : ℕ) where
+module _ {a b drift start v : List ℤ} (ha : Bounded mostEntry a) (hb : Bounded mostEntry b) (hw : Bounded mostDrift drift)
+    (hs : Bounded mostNumber start) (hv : Bounded mostNumber v) (k i : ℕ) where
   pub size-both : natAbs (fromStates a start v k i +ℤ fromInputs b v k i) ≤ 3276800000
   size-both =
       size-add (fromStates a start v k i) (fromInputs b v k i)
@@ -116,8 +117,8 @@ module _ {a b drift start v : List ℤ} (ha : Bounded 16384 a) (hb : Bounded 163
   size-residual = size-sub (modelAt a b drift start v k i) (pos 4096 *ℤ paddedPlan v .x k i) size-model (size-units hv (10 * k + (4 + i)))
 
 -- what `residuals` gives
-pub residuals-bounded : {a b drift start v e : List ℤ} (horizon : ℕ) → Bounded 16384 a → Bounded 16384 b → Bounded 16777216 drift →
-    Bounded 20000 start → Bounded 20000 v → Steps 6 horizon (residualAt a b drift start v) e → Bounded 3375497216 e
+pub residuals-bounded : {a b drift start v e : List ℤ} (horizon : ℕ) → Bounded mostEntry a → Bounded mostEntry b → Bounded mostDrift drift →
+    Bounded mostNumber start → Bounded mostNumber v → Steps 6 horizon (residualAt a b drift start v) e → Bounded 3375497216 e
 residuals-bounded horizon ha hb hw hs hv steps =
     steps-bounded 6 horizon _ _ (omega arith) steps (λ k i _ _. size-residual ha hb hw hs hv k i)
 
@@ -130,11 +131,11 @@ driftAt drift y k = sum 6 (λ i. padded y k i *ℤ at drift i)
 abbrev pub startedAt : List ℤ → List ℤ → List ℤ → ℕ → ℤ
 startedAt a start y i = sum 6 (λ j. padded y 0 i *ℤ stateMatrix a i j *ℤ at start j)
 
-pub size-drifts : {drift y : List ℤ} → Bounded 16777216 drift → Bounded 16777216 y → (n : ℕ) →
+pub size-drifts : {drift y : List ℤ} → Bounded mostDrift drift → Bounded mostMultiplier y → (n : ℕ) →
     natAbs (sum n (driftAt drift y)) ≤ n * 1688849860263936
 size-drifts hw hy n = size-sum n 1688849860263936 _ (λ k _. size-products hy hw 6 (λ i. 6 * k + i) (λ i. i))
 
-module _ {a start y : List ℤ} (ha : Bounded 16384 a) (hs : Bounded 20000 start) (hy : Bounded 16777216 y) where
+module _ {a start y : List ℤ} (ha : Bounded mostEntry a) (hs : Bounded mostNumber start) (hy : Bounded mostMultiplier y) where
   pub size-startedAt : (i : ℕ) → natAbs (startedAt a start y i) ≤ 32985348833280000
   size-startedAt i =
       size-sum 6 5497558138880000 _
@@ -143,17 +144,17 @@ module _ {a start y : List ℤ} (ha : Bounded 16384 a) (hs : Bounded 20000 start
   pub size-started : (n : ℕ) → natAbs (sum n (startedAt a start y)) ≤ n * 32985348833280000
   size-started n = size-sum n 32985348833280000 _ (λ i _. size-startedAt i)
 
-pub size-constant : {a drift start y : List ℤ} (N : ℕ) → N ≤ 12 → Bounded 16384 a → Bounded 16777216 drift → Bounded 20000 start → Bounded 16777216 y →
+pub size-constant : {a drift start y : List ℤ} (N : ℕ) → N ≤ 12 → Bounded mostEntry a → Bounded mostDrift drift → Bounded mostNumber start → Bounded mostMultiplier y →
     natAbs (constant (paddedProblem N a [] drift start [] [] [] []) (padded y)) ≤ 218178291322847232
 unfolding constant
 size-constant {a} {drift} {start} {y} N l ha hw hs hy =
     le-trans (size-add (sum N (driftAt drift y)) (sum 6 (startedAt a start y)) (size-drifts hw hy N) (size-started ha hs hy 6)) (omega arith)
 
-pub size-sizes : {y : List ℤ} (N : ℕ) → N ≤ 12 → Bounded 16777216 y → natAbs (sizes 6 N (padded y)) ≤ 1207959552
+pub size-sizes : {y : List ℤ} (N : ℕ) → N ≤ 12 → Bounded mostMultiplier y → natAbs (sizes 6 N (padded y)) ≤ 1207959552
 unfolding sizes
 size-sizes {y} N l hy = le-trans (size-sum N 100663296 _ (λ k _. size-sum 6 16777216 _ (λ i _. hy .each (6 * k + i)))) (omega arith)
 
-pub size-offset : {a drift start y : List ℤ} (N : ℕ) → N ≤ 12 → Bounded 16384 a → Bounded 16777216 drift → Bounded 20000 start → Bounded 16777216 y →
+pub size-offset : {a drift start y : List ℤ} (N : ℕ) → N ≤ 12 → Bounded mostEntry a → Bounded mostDrift drift → Bounded mostNumber start → Bounded mostMultiplier y →
     natAbs (constant (paddedProblem N a [] drift start [] [] [] []) (padded y) -ℤ pos 2048 *ℤ sizes 6 N (padded y)) ≤ 218180765224009728
 size-offset {a} {drift} {start} {y} N l ha hw hs hy =
     size-sub (constant (paddedProblem N a [] drift start [] [] [] []) (padded y)) (pos 2048 *ℤ sizes 6 N (padded y)) (size-constant N l ha hw hs hy)

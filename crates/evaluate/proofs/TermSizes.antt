@@ -16,6 +16,7 @@ use Rattle.integer.proofs.Order.{order, square-nonneg}
 use Rattle.integer.proofs.Sizes.{size-parts, size-add, size-sub, size-mul, back, back-is, Formed, formed}
 use Rattle.integer.proofs.Sum.{size-sum}
 use Rattle.integer.proofs.Quotient.{quotient-most, quotient-least}
+use Rattle.tape.specs.Ranges.{mostNumber}
 use Rattle.problem.specs.Model.{Term}
 use Rattle.problem.specs.Cost.{cost}
 use Rattle.problem.specs.Dual.{conjugate, tilt, piece, larger, most}
@@ -35,15 +36,15 @@ pieceSize = costSize + slopeSize * 20000
 -- ---- A number v beside its reference
 
 -- s v
-pub pushed : (s v : ℤ) → natAbs s ≤ slopeSize → natAbs v ≤ 20000 → Formed (back s *ℤ back v) (s *ℤ v)
+pub pushed : (s v : ℤ) → natAbs s ≤ slopeSize → natAbs v ≤ mostNumber → Formed (back s *ℤ back v) (s *ℤ v)
 pushed s v h k = formed (rw (back-is s h (omega arith), back-is v k (omega arith))) (size-mul s v h k) (omega arith)
 
 pub record Near (p v r : ℤ) : Type 0 where
   pub penalty : natAbs p ≤ 1044480
-  pub number : natAbs v ≤ 20000
-  pub reference : natAbs r ≤ 20000
+  pub number : natAbs v ≤ mostNumber
+  pub reference : natAbs r ≤ mostNumber
 
-pub near : {t : Term} → Ranged t → (v : ℤ) → natAbs v ≤ 20000 → Near (t .penalty) v (t .reference)
+pub near : {t : Term} → Ranged t → (v : ℤ) → natAbs v ≤ mostNumber → Near (t .penalty) v (t .reference)
 near g v h = record { penalty = g .penalty; number = h; reference = g .reference }
 
 module _ {p v r : ℤ} (n : Near p v r) where

@@ -2,3 +2,4 @@
 pub mod Padded
 pub mod Ranges
 pub mod Terms
+pub mod Held

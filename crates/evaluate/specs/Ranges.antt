@@ -4,6 +4,7 @@ use mathlib.Core.List.{List}
 use lib.ListN.{length}
 use lib.IntN.{ℤ, pos, natAbs}
 use Rattle.integer.specs.Order.{_≼_}
+use Rattle.tape.specs.Ranges.{mostNumber}
 use Rattle.problem.specs.Model.{Term}
 use Rattle.evaluate.specs.Padded.{termAt}
 
@@ -11,9 +12,9 @@ use Rattle.evaluate.specs.Padded.{termAt}
 pub record Ranged (t : Term) : Type 0 where
   pub weighed : pos 4096 ≼ t .penalty
   pub penalty : natAbs (t .penalty) ≤ 1044480
-  pub low : natAbs (t .low) ≤ 20000
-  pub high : natAbs (t .high) ≤ 20000
-  pub reference : natAbs (t .reference) ≤ 20000
+  pub low : natAbs (t .low) ≤ mostNumber
+  pub high : natAbs (t .high) ≤ mostNumber
+  pub reference : natAbs (t .reference) ≤ mostNumber
   pub ordered : t .low ≼ t .high
 
 -- Every place of the four tables.

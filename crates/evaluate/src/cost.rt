@@ -4,6 +4,7 @@ ghost use mathlib.Core.Path.{_≡_};
 ghost use mathlib.Core.List.{[]};
 ghost use lib.IntN.{natAbs, _-ℤ_, _*ℤ_};
 ghost use Rattle.integer.specs.Places.{Bounded};
+ghost use Rattle.tape.specs.Ranges.{mostNumber};
 ghost use Rattle.problem.specs.Cost.{planCost};
 ghost use Rattle.problem.specs.Dual.{most, ceiling};
 ghost use Rattle.evaluate.specs.Padded.{paddedPlan, termOf, paddedProblem};
@@ -11,7 +12,7 @@ ghost use Rattle.evaluate.specs.Ranges.{Ranged, Tables};
 
 // P (v - r)².
 pub fn cost_of(p: i64, r: i64, v: i64) -> i64
-    requires { ⌜ (natAbs p ≤ 1044480) × (natAbs r ≤ 20000) × (natAbs v ≤ 20000) ⌝ }
+    requires { ⌜ (natAbs p ≤ 1044480) × (natAbs r ≤ mostNumber) × (natAbs v ≤ mostNumber) ⌝ }
     ensures { λ q. ⌜ q ≡ p *ℤ ((v -ℤ r) *ℤ (v -ℤ r)) ⌝ }
 {
     let d = v - r;
@@ -27,7 +28,7 @@ pub fn plan_cost<'a>(
     v: &'a [i64; 120],
     horizon: usize,
 ) -> i64
-    requires { ⌜ (horizon ≤ 12) × Tables (now penalty) (now low) (now high) (now reference) × Bounded 20000 (now v) ⌝ }
+    requires { ⌜ (horizon ≤ 12) × Tables (now penalty) (now low) (now high) (now reference) × Bounded mostNumber (now v) ⌝ }
     ensures { λ r. ⌜ r ≡ planCost (paddedProblem horizon [] [] [] [] (now (penalty .entry)) (now (low .entry)) (now (high .entry)) (now (reference .entry))) (paddedPlan (now (v .entry))) ⌝ }
 {
     let count = 10 * horizon;

@@ -6,6 +6,7 @@ ghost use lib.ListN.{length};
 ghost use lib.IntN.{pos, natAbs, _+ℤ_, _-ℤ_, _*ℤ_};
 ghost use Rattle.integer.specs.Places.{at, Bounded, Stretch, Steps};
 ghost use Rattle.integer.specs.Sum.{sum};
+ghost use Rattle.tape.specs.Ranges.{mostEntry, mostDrift, mostNumber, mostMultiplier};
 ghost use Rattle.problem.specs.Dual.{inputSlope, carried, stateSlope, piece, constant, sizes, floor};
 ghost use Rattle.evaluate.specs.Padded.{stateMatrix, inputMatrix, padded, byPlace, termAt, termOf, paddedProblem};
 ghost use Rattle.evaluate.specs.Ranges.{Ranged, Tables};
@@ -15,7 +16,7 @@ use integer::number::size;
 use integer::number::square_quotient;
 
 fn input_slopes(s: &mut [i64; 120], b: &[i64; 24], y: &[i64; 72], k: usize)
-    requires { ⌜ (k < 12) × (length (now s) ≡ 120) × Bounded 16384 (now b) × Bounded 16777216 (now y) ⌝ }
+    requires { ⌜ (k < 12) × (length (now s) ≡ 120) × Bounded mostEntry (now b) × Bounded mostMultiplier (now y) ⌝ }
     ensures { λ _. ⌜ Stretch (10 * k) 4 (inputSlope 6 (inputMatrix (now (b .entry))) (padded (now (y .entry))) k) (now (s .entry)) (now (s .exit)) ⌝ }
 {
     let mut j: usize = 0;
@@ -27,7 +28,7 @@ fn input_slopes(s: &mut [i64; 120], b: &[i64; 24], y: &[i64; 72], k: usize)
 
 // What A adds to the slope of x(k+1,i).
 fn carried_slope(a: &[i64; 36], y: &[i64; 72], k: usize, i: usize, horizon: usize) -> i64
-    requires { ⌜ (i < 6) × (k < horizon) × (horizon ≤ 12) × Bounded 16384 (now a) × Bounded 16777216 (now y) ⌝ }
+    requires { ⌜ (i < 6) × (k < horizon) × (horizon ≤ 12) × Bounded mostEntry (now a) × Bounded mostMultiplier (now y) ⌝ }
     ensures { λ r. ⌜ r ≡ carried 6 horizon (stateMatrix (now (a .entry))) (padded (now (y .entry))) k i ⌝ }
 {
     if k + 1 < horizon {
@@ -37,7 +38,7 @@ fn carried_slope(a: &[i64; 36], y: &[i64; 72], k: usize, i: usize, horizon: usiz
 }
 
 fn state_slopes(s: &mut [i64; 120], a: &[i64; 36], y: &[i64; 72], k: usize, horizon: usize)
-    requires { ⌜ (k < horizon) × (horizon ≤ 12) × (length (now s) ≡ 120) × Bounded 16384 (now a) × Bounded 16777216 (now y) ⌝ }
+    requires { ⌜ (k < horizon) × (horizon ≤ 12) × (length (now s) ≡ 120) × Bounded mostEntry (now a) × Bounded mostMultiplier (now y) ⌝ }
     ensures { λ _. ⌜ Stretch (10 * k + 4) 6 (stateSlope 6 horizon (stateMatrix (now (a .entry))) (padded (now (y .entry))) k) (now (s .entry)) (now (s .exit)) ⌝ }
 {
     let mut i: usize = 0;
@@ -54,7 +55,7 @@ pub fn slopes<'a>(
     y: &'a [i64; 72],
     horizon: usize,
 ) -> [i64; 120]
-    requires { ⌜ (horizon ≤ 12) × Bounded 16384 (now a) × Bounded 16384 (now b) × Bounded 16777216 (now y) ⌝ }
+    requires { ⌜ (horizon ≤ 12) × Bounded mostEntry (now a) × Bounded mostEntry (now b) × Bounded mostMultiplier (now y) ⌝ }
     ensures { λ r. ⌜ Steps 10 horizon (byPlace (inputSlope 6 (inputMatrix (now (b .entry))) (padded (now (y .entry))))
         (stateSlope 6 horizon (stateMatrix (now (a .entry))) (padded (now (y .entry))))) r ⌝ }
 {
@@ -70,7 +71,7 @@ pub fn slopes<'a>(
 
 // 2P (v - r) + s.
 fn tilt_at(p: i64, v: i64, r: i64, s: i64) -> i64
-    requires { ⌜ (natAbs p ≤ 1044480) × (natAbs v ≤ 20000) × (natAbs r ≤ 20000) × (natAbs s ≤ 1717986918400) ⌝ }
+    requires { ⌜ (natAbs p ≤ 1044480) × (natAbs v ≤ mostNumber) × (natAbs r ≤ mostNumber) × (natAbs s ≤ 1717986918400) ⌝ }
     ensures { λ q. ⌜ q ≡ pos 2 *ℤ p *ℤ (v -ℤ r) +ℤ s ⌝ }
 {
     2 * p * (v - r) + s
@@ -78,7 +79,7 @@ fn tilt_at(p: i64, v: i64, r: i64, s: i64) -> i64
 
 // P (v - r)² + s v.
 fn edge(p: i64, v: i64, r: i64, s: i64) -> i64
-    requires { ⌜ (natAbs p ≤ 1044480) × (natAbs v ≤ 20000) × (natAbs r ≤ 20000) × (natAbs s ≤ 1717986918400) ⌝ }
+    requires { ⌜ (natAbs p ≤ 1044480) × (natAbs v ≤ mostNumber) × (natAbs r ≤ mostNumber) × (natAbs s ≤ 1717986918400) ⌝ }
     ensures { λ q. ⌜ q ≡ p *ℤ ((v -ℤ r) *ℤ (v -ℤ r)) +ℤ s *ℤ v ⌝ }
 {
     cost_of(p, r, v) + s * v
@@ -122,7 +123,7 @@ pub fn pieces<'a>(
 
 // The sum of y(k,i) w(i) over all k and i.
 fn drifts(drift: &[i64; 6], y: &[i64; 72], horizon: usize) -> i64
-    requires { ⌜ (horizon ≤ 12) × Bounded 16777216 (now drift) × Bounded 16777216 (now y) ⌝ }
+    requires { ⌜ (horizon ≤ 12) × Bounded mostDrift (now drift) × Bounded mostMultiplier (now y) ⌝ }
     ensures { λ r. ⌜ r ≡ sum horizon (λ k. sum 6 (λ i. padded (now (y .entry)) k i *ℤ at (now (drift .entry)) i)) ⌝ }
 {
     let mut total: i64 = 0;
@@ -136,7 +137,7 @@ fn drifts(drift: &[i64; 6], y: &[i64; 72], horizon: usize) -> i64
 
 // The sum of y(0,i) A(i,j) x(0,j) over i and j.
 fn started<'a>(a: &'a [i64; 36], start: &'a [i64; 6], y: &'a [i64; 72]) -> i64
-    requires { ⌜ Bounded 16384 (now a) × Bounded 20000 (now start) × Bounded 16777216 (now y) ⌝ }
+    requires { ⌜ Bounded mostEntry (now a) × Bounded mostNumber (now start) × Bounded mostMultiplier (now y) ⌝ }
     ensures { λ r. ⌜ r ≡ sum 6 (λ i. sum 6 (λ j. padded (now (y .entry)) 0 i *ℤ stateMatrix (now (a .entry)) i j *ℤ at (now (start .entry)) j)) ⌝ }
 {
     let mut total: i64 = 0;
@@ -150,7 +151,7 @@ fn started<'a>(a: &'a [i64; 36], start: &'a [i64; 6], y: &'a [i64; 72]) -> i64
 
 // The sum of |y|.
 fn sizes_of(y: &[i64; 72], count: usize) -> i64
-    requires { ⌜ (count ≤ 72) × Bounded 16777216 (now y) ⌝ }
+    requires { ⌜ (count ≤ 72) × Bounded mostMultiplier (now y) ⌝ }
     ensures { λ r. ⌜ r ≡ sum count (λ p. pos (natAbs (at (now (y .entry)) p))) ⌝ }
 {
     let mut total: i64 = 0;
@@ -170,7 +171,7 @@ pub fn offset<'a>(
     y: &'a [i64; 72],
     horizon: usize,
 ) -> i64
-    requires { ⌜ (horizon ≤ 12) × Bounded 16384 (now a) × Bounded 16777216 (now drift) × Bounded 20000 (now start) × Bounded 16777216 (now y) ⌝ }
+    requires { ⌜ (horizon ≤ 12) × Bounded mostEntry (now a) × Bounded mostDrift (now drift) × Bounded mostNumber (now start) × Bounded mostMultiplier (now y) ⌝ }
     ensures { λ r. ⌜ r ≡ constant (paddedProblem horizon (now (a .entry)) [] (now (drift .entry)) (now (start .entry)) [] [] [] []) (padded (now (y .entry)))
         -ℤ pos 2048 *ℤ sizes 6 horizon (padded (now (y .entry))) ⌝ }
 {
@@ -191,8 +192,8 @@ pub fn floor_of<'a>(
     y: &'a [i64; 72],
     horizon: usize,
 ) -> i64
-    requires { ⌜ (horizon ≤ 12) × Bounded 16384 (now a) × Bounded 16384 (now b) × Bounded 16777216 (now drift) × Bounded 20000 (now start) ⌝ }
-    requires { ⌜ Tables (now penalty) (now low) (now high) (now reference) × Bounded 16777216 (now y) ⌝ }
+    requires { ⌜ (horizon ≤ 12) × Bounded mostEntry (now a) × Bounded mostEntry (now b) × Bounded mostDrift (now drift) × Bounded mostNumber (now start) ⌝ }
+    requires { ⌜ Tables (now penalty) (now low) (now high) (now reference) × Bounded mostMultiplier (now y) ⌝ }
     ensures { λ r. ⌜ r ≡ floor (paddedProblem horizon (now (a .entry)) (now (b .entry)) (now (drift .entry)) (now (start .entry))
         (now (penalty .entry)) (now (low .entry)) (now (high .entry)) (now (reference .entry))) (padded (now (y .entry))) ⌝ }
 {

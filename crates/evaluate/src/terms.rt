@@ -4,6 +4,7 @@ ghost use mathlib.Core.Path.{_≡_};
 ghost use lib.ListN.{replicate};
 ghost use lib.IntN.{pos, _*ℤ_};
 ghost use Rattle.integer.specs.Places.{at, Bounded, Stretch};
+ghost use Rattle.tape.specs.Ranges.{mostWeight};
 ghost use Rattle.tape.specs.Legal.{Legal};
 ghost use Rattle.evaluate.specs.Terms.{placed, TermsOf};
 use tape::Tape;
@@ -49,7 +50,7 @@ fn spread(column: &[i64; 10], n: usize, m: usize, blank: i64) -> [i64; 120]
 
 // P = 4096 h of every column.
 fn penalties(weight: &[i64; 10]) -> [i64; 10]
-    requires { ⌜ Bounded 255 (now weight) ⌝ }
+    requires { ⌜ Bounded mostWeight (now weight) ⌝ }
     ensures { λ r. ⌜ Stretch 0 10 (λ c. pos 4096 *ℤ at (now (weight .entry)) c) (replicate 10 (pos 0)) r ⌝ }
 {
     let mut penalty = [0i64; 10];

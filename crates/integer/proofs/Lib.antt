@@ -9,3 +9,4 @@ pub mod Square
 pub mod Limited
 pub mod Operand
 pub mod Places
+pub mod Tests

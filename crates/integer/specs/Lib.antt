@@ -2,6 +2,7 @@
 pub mod Order
 pub mod Quotient
 pub mod Limited
+pub mod Tests
 pub mod Sum
 pub mod Operand
 pub mod Places

@@ -5,6 +5,7 @@ ghost use lib.IntN.{pos, natAbs, _*ℤ_};
 ghost use Rattle.integer.specs.Limited.{limited};
 ghost use Rattle.integer.specs.Order.{_≼_};
 ghost use Rattle.integer.specs.Quotient.{_÷_};
+ghost use Rattle.integer.specs.Tests.{outside};
 
 // x / d rounded down. Every divisor of document 01 is from 1: 4,096, 65,536, k + 2 and, as weights
 // are from 1, 2P.
@@ -29,6 +30,16 @@ pub fn limit(x: i64, lo: i64, hi: i64) -> i64
         return hi;
     }
     x
+}
+
+// Whether v lies outside lo to hi.
+pub fn is_outside(v: i64, lo: i64, hi: i64) -> bool
+    ensures { λ r. ⌜ r ≡ outside lo hi v ⌝ }
+{
+    if v < lo {
+        return true;
+    }
+    hi < v
 }
 
 // The size of x. It is unsigned, so that the least i64 has one too.

@@ -13,10 +13,10 @@ use Rattle.integer.proofs.Operand.{Bytes}
 use Rattle.tape.specs.declared.Answer.{Answer}
 use Rattle.tape.specs.declared.Answer.the-variants as answer
 use Rattle.tape.specs.declared.Tape.{Tape}
-use Rattle.tape.specs.Format.{outside}
+use Rattle.integer.specs.Tests.{outside}
 use Rattle.tape.specs.Legal.{Legal}
 use Rattle.tape.specs.Reading.{reading}
-use Rattle.tape.proofs.Tests.{by-test, none, in-range, not-outside}
+use Rattle.integer.proofs.Tests.{by-test, none, in-range, not-outside}
 use Rattle.tape.proofs.Facts.{legal}
 use Rattle.problem.specs.Model.{Problem, Plan, problemOf, planOf, multipliersOf, sumAt, rounded}
 use Rattle.problem.specs.Cost.{Follows, planCost}
@@ -27,7 +27,7 @@ use Rattle.judge.specs.declared.Shown.{Shown}
 use Rattle.judge.specs.declared.walk.Check.{Check}
 use Rattle.judge.specs.declared.walk.Check.the-variants.{Passed, Refused}
 use Rattle.judge.specs.Checks.{orElse, first, limits, meets, stateCheck, stepCheck, planCheck, wrongMultipliers}
-use Rattle.judge.specs.Judging.{wrongPlanLength, wrongMultipliersLength, gapWithin, afterCheck, judgedOn, afterRead, floorAbove, shownOn, shownAfterRead}
+use Rattle.judge.specs.Judging.{wrongPlanLength, wrongMultipliersLength, gapWithin, afterCheck, judgedOn, judgedAfterRead, floorAbove, shownOn, shownAfterRead}
 use Rattle.judge.specs.Judging as judging
 use Rattle.judge.specs.Demand.{Backed, Founded}
 use Rattle.judge.proofs.Steps.{both-passed, passed-test, first-each, first-all, limits-within, within-limits}
@@ -46,8 +46,8 @@ module _ (q : Problem) (v : Plan) where
   abbrev inputCheck : ℕ → ℕ → Check
   inputCheck k j = limits (q .inputTerm k j .low) (q .inputTerm k j .high) (v .u k j)
 
-  abbrev stateCheckAt : ℕ → ℕ → Check
-  stateCheckAt k i = stateCheck (sumAt q v k i) (q .stateTerm k i .low) (q .stateTerm k i .high) (v .x k i)
+  abbrev stateCheckOf : ℕ → ℕ → Check
+  stateCheckOf k i = stateCheck (sumAt q v k i) (q .stateTerm k i .low) (q .stateTerm k i .high) (v .x k i)
 
   pub follows : planCheck q v ≡ Passed → Follows q v
   unfolding planCheck stepCheck stateCheck
@@ -57,11 +57,11 @@ module _ (q : Problem) (v : Plan) where
     states-within = λ k i h l. limits-within _ _ (v .x k i) (state k i h l .1);
   }
     where
-      step : (k : ℕ) → k < q .horizon → (first (q .m) (inputCheck k) ≡ Passed) × (first (q .n) (stateCheckAt k) ≡ Passed)
+      step : (k : ℕ) → k < q .horizon → (first (q .m) (inputCheck k) ≡ Passed) × (first (q .n) (stateCheckOf k) ≡ Passed)
       step k h = both-passed _ _ (first-each (q .horizon) (stepCheck q v) e k h)
 
       state : (k i : ℕ) → k < q .horizon → i < q .n → (meets (sumAt q v k i) (v .x k i) ≡ Passed) × (limits (q .stateTerm k i .low) (q .stateTerm k i .high) (v .x k i) ≡ Passed)
-      state k i h l = both-passed _ _ (first-each (q .n) (stateCheckAt k) (step k h .1) i l)
+      state k i h l = both-passed _ _ (first-each (q .n) (stateCheckOf k) (step k h .1) i l)
 
   -- and a plan that follows the tape passes
   pub passes : Follows q v → planCheck q v ≡ Passed
@@ -69,7 +69,7 @@ module _ (q : Problem) (v : Plan) where
   passes f =
       first-all (q .horizon) (stepCheck q v)
       (λ k h. ap₂ orElse (first-all (q .m) (inputCheck k) (λ j l. within-limits _ _ (v .u k j) (f .inputs-within k j h l)))
-      (first-all (q .n) (stateCheckAt k)
+      (first-all (q .n) (stateCheckOf k)
       (λ i l. ap₂ orElse (model-meets (sumAt q v k i) (v .x k i) (f .states-meet k i h l)) (within-limits _ _ (v .x k i) (f .states-within k i h l)))))
 
 -- ---- Judging a plan
@@ -112,7 +112,7 @@ pub backed : (s : List ℕ) (plan y : List ℤ) → Bytes s → Backed (judging.
 unfolding judging.judged
 backed s plan y b = go (reading s .answer) refl
   where
-    go : (a : Answer) → reading s .answer ≡ a → Backed (afterRead a (judgedOn (reading s .tape) plan y)) (reading s .tape) plan
+    go : (a : Answer) → reading s .answer ≡ a → Backed (judgedAfterRead a (judgedOn (reading s .tape) plan y)) (reading s .tape) plan
     go answer.Accepted e = backed-on (reading s .tape) (legal s b e) plan y
     go (answer.Refused why) e = tt
 

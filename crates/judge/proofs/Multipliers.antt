@@ -8,47 +8,26 @@ use native.Mathlib.Numerals.{add-one}
 use native.Mathlib.Omega.{arith}
 use lib.Dec.{ltb}
 use lib.ListN.{length}
-use lib.IntN.{ℤ, pos, negsuc, natAbs}
+use lib.IntN.{ℤ, pos, natAbs, negℤ}
 use borrow.Author.Tests.{ltb-true, ltb-false, lt-ltb, le-ltb}
 use Rattle.integer.specs.Places.{at, Bounded, Stretch, Steps}
 use Rattle.integer.proofs.Sizes.{size-low, size-high}
 use Rattle.integer.proofs.Places.{lt-or-le, all-bounded, steps-bounded}
-use Rattle.tape.specs.Format.{outside}
-use Rattle.tape.proofs.Tests.{in-size, not-outside, by-test, none}
+use Rattle.integer.specs.Tests.{outside, any}
+use Rattle.integer.proofs.Tests.{in-size, not-outside, by-test, any-none, any-all}
+use Rattle.tape.specs.Ranges.{mostMultiplier}
 use Rattle.problem.specs.Model.{multipliersOf}
-use Rattle.judge.specs.Checks.{any, wrongMultipliers}
-use Rattle.judge.specs.Held.{HeldMultipliers}
+use Rattle.judge.specs.Checks.{wrongMultipliers}
+use Rattle.evaluate.specs.Held.{HeldMultipliers}
 
 -- ---- The test of their range
 
-pub any-at : (count p : ℕ) (f : ℕ → Bool) → p < count → f p ≡ true → any count f ≡ true
-unfolding any
-any-at zero p f h e = let z : ⊥ = omega arith in absurd z
-any-at (suc count) p f h e =
-    ⊎-elim (λ l. rw (any-at count p f l e)) (λ l. let z : count ≡ p = omega arith in rw (z, e) (or-true (any p f))) (lt-or-le p count)
+pub multipliers-bounded : (l : List ℤ) → wrongMultipliers l ≡ false → Bounded mostMultiplier l
+multipliers-bounded l e = all-bounded l (length l) refl (λ p h. in-size mostMultiplier (at l p) (any-none (length l) p _ h e))
 
-pub any-more : (count : ℕ) (f : ℕ → Bool) → any count f ≡ false → f count ≡ false → any (count + 1) f ≡ false
-unfolding any
-any-more count f e h = rw (add-one count, e, h)
-
-pub any-none : (count p : ℕ) (f : ℕ → Bool) → p < count → any count f ≡ false → f p ≡ false
-unfolding any
-any-none zero p f h e = let z : ⊥ = omega arith in absurd z
-any-none (suc count) p f h e =
-    let o = none (any count f) (f count ∷ []) e in
-    ⊎-elim (λ l. any-none count p f l (o .0)) (λ l. let z : p ≡ count = omega arith in rw z (o .1 .0)) (lt-or-le p count)
-
-pub any-all : (count : ℕ) (f : ℕ → Bool) → ((p : ℕ) → p < count → f p ≡ false) → any count f ≡ false
-unfolding any
-any-all zero f h = refl
-any-all (suc count) f h = rw (any-all count f (λ p l. h p (omega arith)), h count (omega arith))
-
-pub multipliers-bounded : (l : List ℤ) → wrongMultipliers l ≡ false → Bounded 16777216 l
-multipliers-bounded l e = all-bounded l (length l) refl (λ p h. in-size 16777216 (at l p) (any-none (length l) p _ h e))
-
-pub bounded-multipliers : (l : List ℤ) → Bounded 16777216 l → wrongMultipliers l ≡ false
+pub bounded-multipliers : (l : List ℤ) → Bounded mostMultiplier l → wrongMultipliers l ≡ false
 bounded-multipliers l b =
-    any-all (length l) _ (λ p h. not-outside (negsuc 16777215) (pos 16777216) (at l p) (size-low (at l p) (b .each p), size-high (at l p) (b .each p)))
+    any-all (length l) _ (λ p h. not-outside (negℤ (pos mostMultiplier)) (pos mostMultiplier) (at l p) (size-low (at l p) (b .each p), size-high (at l p) (b .each p)))
 
 -- ---- Padded places
 
@@ -75,5 +54,5 @@ held n N l y h e s = record {
   blank = record { each = λ k i a b. ⊎-elim (λ c. s .each k i c b ∙ rw (le-ltb i n a)) (λ c. s .rest (6 * k + i) (omega arith)) (lt-or-le k N) };
   bounded =
       steps-bounded 6 N _ y (omega arith) s
-      (λ k i _ _. by-test (λ z. natAbs z ≤ 16777216) (ltb i n) (λ _. multipliers-bounded l e .each (k * n + i)) (λ _. omega arith));
+      (λ k i _ _. by-test (λ z. natAbs z ≤ mostMultiplier) (ltb i n) (λ _. multipliers-bounded l e .each (k * n + i)) (λ _. omega arith));
 }

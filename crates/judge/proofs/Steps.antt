@@ -13,11 +13,12 @@ use Rattle.integer.specs.Places.{at, Bounded, Stretch}
 use Rattle.integer.proofs.Order.{order}
 use Rattle.integer.proofs.Sizes.{size-parts}
 use Rattle.integer.proofs.Places.{lt-or-le, zeros}
+use Rattle.tape.specs.Ranges.{mostNumber}
 use Rattle.tape.specs.declared.Tape.{Tape}
 use Rattle.tape.specs.declared.refusal.Refusal.{Refusal}
-use Rattle.tape.specs.Format.{outside}
+use Rattle.integer.specs.Tests.{outside}
 use Rattle.tape.specs.Legal.{Legal}
-use Rattle.tape.proofs.Tests.{in-range, not-outside}
+use Rattle.integer.proofs.Tests.{in-range, not-outside}
 use Rattle.problem.specs.Model.{Term, Plan, problemOf, planOf, stateAt, modelSum, sumAt}
 use Rattle.problem.proofs.Congruence.{model-cong}
 use Rattle.evaluate.specs.Padded.{stateMatrix, inputMatrix, paddedPlan}
@@ -27,7 +28,8 @@ use Rattle.evaluate.proofs.Padding.{model-padded}
 use Rattle.judge.specs.declared.walk.Check.{Check}
 use Rattle.judge.specs.declared.walk.Check.the-variants.{Passed, Refused}
 use Rattle.judge.specs.Checks.{orElse, first, limits, meets, stateCheck, stepCheck}
-use Rattle.judge.specs.Held.{BlankPlan, HeldPlan, Filled, HeldWhere}
+use Rattle.evaluate.specs.Held.{BlankPlan, HeldPlan}
+use Rattle.judge.specs.Held.{FilledWhenPassed, HeldWhenPassed}
 
 -- ---- The first refusal
 
@@ -145,7 +147,7 @@ model-kept a b drift start k i w s =
 -- ---- A step of the plan p, of which v holds the steps before: its inputs are stored in w, then its states in z
 
 -- no step yet
-pub held-start : {n m : ℕ} {v : Plan} {l : List ℤ} → BlankPlan n m l → Bounded 20000 l → length l ≡ 120 → HeldPlan n m 0 v l
+pub held-start : {n m : ℕ} {v : Plan} {l : List ℤ} → BlankPlan n m l → Bounded mostNumber l → length l ≡ 120 → HeldPlan n m 0 v l
 held-start blank bounded long = record {
   input = λ q j h. let z : ⊥ = omega arith in absurd z;
   state = λ q i h. let z : ⊥ = omega arith in absurd z;
@@ -166,7 +168,7 @@ module _ {n m k : ℕ} {p : Plan} {v w : List ℤ} (few : (n ≤ 6) × (m ≤ 4)
       model-cong n m A B drift _ _ _ _ i
       (states-before start k n (λ q j h b. inputs .outside (10 * q + (4 + j)) (inl (omega arith)) ∙ held .state q j h b)) (inputs .inside)
 
-  pub held-next : {z : List ℤ} → Stretch (10 * k + 4) n (p .x k) w z → Bounded 20000 z → HeldPlan n m (k + 1) p z
+  pub held-next : {z : List ℤ} → Stretch (10 * k + 4) n (p .x k) w z → Bounded mostNumber z → HeldPlan n m (k + 1) p z
   held-next {z} states bounded = record {
     input = λ q j h b.
         ⊎-elim (λ a. kept (10 * q + j) (λ c. omega arith) (λ c. omega arith) ∙ held .input q j a b)
@@ -202,7 +204,7 @@ module _ {t : Tape} {penalty low high reference : List ℤ} (legal : Legal t) (t
   -- once the inputs have passed
   module _ {v w : List ℤ} (held : HeldPlan (t .n) (t .m) k (planOf (t .n) (t .m) l) v) (passed : inputsCheck t low high l k ≡ Passed)
       (inputs : Stretch (10 * k) (t .m) (planOf (t .n) (t .m) l .u k) v w) where
-    pub inputs-bounded : Bounded 20000 w
+    pub inputs-bounded : Bounded mostNumber w
     inputs-bounded =
         stretch-bounded (held .bounded)
         (λ j h. let p = 10 * k + j in
@@ -226,7 +228,7 @@ module _ {t : Tape} {penalty low high reference : List ℤ} (legal : Legal t) (t
     step-states = ap₂ orElse (inputs-checked ∙ passed) (first-cong (t .n) _ _ state-checked)
 
     pub held-where : (z : List ℤ) (r : Check) → r ≡ statesCheck t low high l w k →
-        Filled r (10 * k + 4) (t .n) (λ i. at l (k * (t .n + t .m) + t .m + i)) w z → HeldWhere r (t .n) (t .m) (k + 1) (planOf (t .n) (t .m) l) z
+        FilledWhenPassed r (10 * k + 4) (t .n) (λ i. at l (k * (t .n + t .m) + t .m + i)) w z → HeldWhenPassed r (t .n) (t .m) (k + 1) (planOf (t .n) (t .m) l) z
     held-where z Passed e states =
         held-next (legal .states .1, legal .inputs .1) held inputs
         (stretch-cong states (λ i h. let e : k * (t .n + t .m) + t .m + i ≡ k * (t .n + t .m) + (t .m + i) = omega arith in ap (at l) e))

@@ -1,11 +1,12 @@
 -- The tests of lent numbers: 12 of the multipliers, and 11 and 10 of the plan from the front.
 use Prim.Native.Nat.{ℕ, zero, suc}
-use mathlib.Core.Bool.{Bool, false, cond, _||_}
+use mathlib.Core.Bool.{Bool, cond}
 use mathlib.Core.List.{List}
 use lib.ListN.{length}
-use lib.IntN.{ℤ, pos, negsuc}
+use lib.IntN.{ℤ, pos, negℤ}
 use Rattle.integer.specs.Places.{at}
-use Rattle.tape.specs.Format.{outside}
+use Rattle.integer.specs.Tests.{outside, any}
+use Rattle.tape.specs.Ranges.{mostMultiplier}
 use Rattle.tape.specs.declared.refusal.Refusal.the-variants.{OffModel, OverLimit}
 use Rattle.problem.specs.Model.{Problem, Plan, sumAt, rounded}
 use Rattle.judge.specs.declared.walk.Check.{Check}
@@ -13,13 +14,8 @@ use Rattle.judge.specs.declared.walk.Check.the-variants.{Passed, Refused
 
 -- ---- Multipliers, from −16,777,216 to 16,777,216
 
--- f holds of a number below count
-unfoldable pub any : ℕ → (ℕ → Bool) → Bool
-any zero f = false
-any (suc count) f = any count f || f count
-
 abbrev pub wrongMultipliers : List ℤ → Bool
-wrongMultipliers y = any (length y) (λ p. outside (negsuc 16777215) (pos 16777216) (at y p))
+wrongMultipliers y = any (length y) (λ p. outside (negℤ (pos mostMultiplier)) (pos mostMultiplier) (at y p))
 
 -- ---- The plan
 

@@ -1,42 +1,17 @@
--- What the private functions tell each other: padded arrays hold the lent numbers.
-use Prim.Native.Nat.{ℕ, _<_, _≤_}
-use mathlib.Core.Path.{_≡_}
+-- What the private functions tell each other: where a check passed, the padded places have been filled.
+use Prim.Native.Nat.{ℕ}
 use mathlib.Core.List.{List}
-use lib.ListN.{length}
-use lib.IntN.{ℤ, pos}
-use Rattle.integer.specs.Places.{Bounded, Stretch}
+use lib.IntN.{ℤ}
+use Rattle.integer.specs.Places.{Stretch}
 use Rattle.problem.specs.Model.{Plan}
-use Rattle.evaluate.specs.Padded.{padded, paddedPlan}
+use Rattle.evaluate.specs.Held.{HeldPlan}
 use Rattle.judge.specs.declared.walk.Check.{Check}
 use Rattle.judge.specs.declared.walk.Check.the-variants.{Passed, Refused}
 
--- places beyond the sizes hold 0
-pub record BlankMultipliers (n : ℕ) (y : List ℤ) : Type 0 where
-  pub each : (k i : ℕ) → n ≤ i → i < 6 → padded y k i ≡ pos 0
+abbrev pub FilledWhenPassed : Check → ℕ → ℕ → (ℕ → ℤ) → List ℤ → List ℤ → Type 0
+FilledWhenPassed Passed o w f old new = Stretch o w f old new
+FilledWhenPassed (Refused why) o w f old new = Unit {0}
 
-pub record BlankPlan (n m : ℕ) (v : List ℤ) : Type 0 where
-  pub input : (k j : ℕ) → k < 12 → m ≤ j → j < 4 → paddedPlan v .u k j ≡ pos 0
-  pub state : (k i : ℕ) → k < 12 → n ≤ i → i < 6 → paddedPlan v .x k i ≡ pos 0
-
--- l holds the multipliers y of n states and N steps
-pub record HeldMultipliers (n N : ℕ) (y : ℕ → ℕ → ℤ) (l : List ℤ) : Type 0 where
-  pub same : (k i : ℕ) → k < N → i < n → padded l k i ≡ y k i
-  pub blank : BlankMultipliers n l
-  pub bounded : Bounded 16777216 l
-
--- l holds the first k steps of the plan v of n states and m inputs
-pub record HeldPlan (n m k : ℕ) (v : Plan) (l : List ℤ) : Type 0 where
-  pub input : (q j : ℕ) → q < k → j < m → paddedPlan l .u q j ≡ v .u q j
-  pub state : (q i : ℕ) → q < k → i < n → paddedPlan l .x q i ≡ v .x q i
-  pub blank : BlankPlan n m l
-  pub bounded : Bounded 20000 l
-  pub long : length l ≡ 120
-
--- where the check passed, the places have been filled
-abbrev pub Filled : Check → ℕ → ℕ → (ℕ → ℤ) → List ℤ → List ℤ → Type 0
-Filled Passed o w f old new = Stretch o w f old new
-Filled (Refused why) o w f old new = Unit {0}
-
-abbrev pub HeldWhere : Check → ℕ → ℕ → ℕ → Plan → List ℤ → Type 0
-HeldWhere Passed n m k v l = HeldPlan n m k v l
-HeldWhere (Refused why) n m k v l = Unit {0}
+abbrev pub HeldWhenPassed : Check → ℕ → ℕ → ℕ → Plan → List ℤ → Type 0
+HeldWhenPassed Passed n m k v l = HeldPlan n m k v l
+HeldWhenPassed (Refused why) n m k v l = Unit {0}

@@ -45,12 +45,12 @@ judgedOn t plan y =
     (afterCheck (planCheck (problemOf t) (planOf (t .n) (t .m) plan))
     (gapWithin t (planCost (problemOf t) (planOf (t .n) (t .m) plan) -ℤ floor (problemOf t) (multipliersOf (t .n) y)))))
 
-abbrev pub afterRead : Answer → Judged → Judged
-afterRead answer.Accepted accepted = accepted
-afterRead (answer.Refused why) accepted = Refused why
+abbrev pub judgedAfterRead : Answer → Judged → Judged
+judgedAfterRead answer.Accepted accepted = accepted
+judgedAfterRead (answer.Refused why) accepted = Refused why
 
 unfoldable pub judged : List ℕ → List ℤ → List ℤ → Judged
-judged s plan y = afterRead (reading s .answer) (judgedOn (reading s .tape) plan y)
+judged s plan y = judgedAfterRead (reading s .answer) (judgedOn (reading s .tape) plan y)
 
 -- 14: the floor is not above the ceiling
 unfoldable pub floorAbove : Tape → ℤ → Shown

@@ -6,8 +6,10 @@ ghost use lib.ListN.{length};
 ghost use Rattle.integer.specs.Places.{at, Stretch};
 ghost use Rattle.problem.specs.Model.{multipliersOf};
 ghost use Rattle.judge.specs.Checks.{wrongMultipliers};
-ghost use Rattle.judge.specs.Held.{HeldMultipliers};
-use tape::is_outside;
+ghost use Rattle.evaluate.specs.Held.{HeldMultipliers};
+use integer::number::is_outside;
+use tape::range::LEAST_MULTIPLIER;
+use tape::range::MOST_MULTIPLIER;
 
 // Test 12: whether a multiplier is outside its range.
 pub fn is_any_outside(multipliers: &[i32]) -> bool
@@ -15,7 +17,7 @@ pub fn is_any_outside(multipliers: &[i32]) -> bool
 {
     let mut p: usize = 0;
     while p < multipliers.len() {
-        if is_outside(multipliers[p] as i64, -16777216, 16777216) {
+        if is_outside(multipliers[p] as i64, LEAST_MULTIPLIER, MOST_MULTIPLIER) {
             return true;
         }
         p += 1;

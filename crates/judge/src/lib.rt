@@ -5,6 +5,7 @@ mod walk;
 ghost use mathlib.Core.Path.{_≡_};
 ghost use lib.IntN.{_-ℤ_};
 ghost use Rattle.integer.specs.Places.{Bounded};
+ghost use Rattle.tape.specs.Ranges.{mostNumber, mostMultiplier};
 ghost use Rattle.tape.specs.Legal.{Legal};
 ghost use Rattle.tape.specs.Reading.{reading};
 ghost use Rattle.problem.specs.Model.{problemOf};
@@ -14,7 +15,7 @@ ghost use Rattle.evaluate.specs.Padded.{padded, paddedPlan};
 ghost use Rattle.evaluate.specs.Terms.{TermsOf};
 ghost use Rattle.judge.specs.Judging.{gapWithin, judgedOn, judged, floorAbove, shownOn, shown};
 ghost use Rattle.judge.specs.Demand.{Backed, Founded};
-ghost use Rattle.judge.specs.Held.{BlankPlan, BlankMultipliers};
+ghost use Rattle.evaluate.specs.Held.{BlankPlan, BlankMultipliers};
 use crate::lent::is_any_outside;
 use crate::lent::padded_multipliers;
 use crate::walk::Check;
@@ -82,7 +83,7 @@ fn judge_on(t: Tape, plan: &[i32], multipliers: &[i32]) -> Judged
 // The gap of a plan that follows the tape, held against T.
 fn judge_gap(t: Tape, terms: Terms, v: [i64; 120], y: [i64; 72]) -> Judged
     requires { ⌜ Legal t × TermsOf t (terms .penalty) (terms .low) (terms .high) (terms .reference) ⌝ }
-    requires { ⌜ Bounded 20000 v × BlankPlan (t .n) (t .m) v × Bounded 16777216 y × BlankMultipliers (t .n) y ⌝ }
+    requires { ⌜ Bounded mostNumber v × BlankPlan (t .n) (t .m) v × Bounded mostMultiplier y × BlankMultipliers (t .n) y ⌝ }
     ensures { λ r. ⌜ r ≡ gapWithin t (planCost (problemOf t) (paddedPlan v) -ℤ floor (problemOf t) (padded y)) ⌝ }
 {
     let horizon = t.horizon;
@@ -146,7 +147,7 @@ fn show_on(t: Tape, multipliers: &[i32]) -> Shown
 // The floor, held against the ceiling.
 fn show_floor(t: Tape, terms: Terms, y: [i64; 72]) -> Shown
     requires { ⌜ Legal t × TermsOf t (terms .penalty) (terms .low) (terms .high) (terms .reference) ⌝ }
-    requires { ⌜ Bounded 16777216 y × BlankMultipliers (t .n) y ⌝ }
+    requires { ⌜ Bounded mostMultiplier y × BlankMultipliers (t .n) y ⌝ }
     ensures { λ r. ⌜ r ≡ floorAbove t (floor (problemOf t) (padded y)) ⌝ }
 {
     let horizon = t.horizon;

@@ -4,17 +4,19 @@ ghost use mathlib.Core.Path.{_≡_};
 ghost use lib.ListN.{length};
 ghost use lib.IntN.{natAbs};
 ghost use Rattle.integer.specs.Places.{at, Bounded};
+ghost use Rattle.tape.specs.Ranges.{mostEntry, mostDrift, mostNumber};
 ghost use Rattle.tape.specs.Legal.{Legal};
 ghost use Rattle.problem.specs.Model.{problemOf, planOf, stateAt, modelSum};
 ghost use Rattle.evaluate.specs.Padded.{stateMatrix, inputMatrix, paddedPlan};
 ghost use Rattle.evaluate.specs.Terms.{TermsOf};
 ghost use Rattle.judge.specs.Checks.{first, limits, stateCheck, stepCheck, planCheck};
-ghost use Rattle.judge.specs.Held.{HeldPlan, Filled, HeldWhere};
+ghost use Rattle.evaluate.specs.Held.{HeldPlan};
+ghost use Rattle.judge.specs.Held.{FilledWhenPassed, HeldWhenPassed};
 use evaluate::model::model_sum;
 use evaluate::model::state_of;
 use evaluate::terms::Terms;
+use integer::number::is_outside;
 use tape::Tape;
-use tape::is_outside;
 use tape::refusal::Refusal;
 
 pub enum Check {
@@ -40,7 +42,7 @@ fn check_inputs<'a>(
 ) -> Check
     requires { ⌜ (k < 12) × (m ≤ 4) × (from + m ≤ length (now plan)) × (length (now v) ≡ 120) ⌝ }
     ensures { λ r. ⌜ r ≡ first m (λ j. limits (at (now (low .entry)) (10 * k + j)) (at (now (high .entry)) (10 * k + j)) (at (now (plan .entry)) (from + j))) ⌝ }
-    ensures { λ r. ⌜ Filled r (10 * k) m (λ j. at (now (plan .entry)) (from + j)) (now (v .entry)) (now (v .exit)) ⌝ }
+    ensures { λ r. ⌜ FilledWhenPassed r (10 * k) m (λ j. at (now (plan .entry)) (from + j)) (now (v .entry)) (now (v .exit)) ⌝ }
 {
     let mut j: usize = 0;
     while j < m {
@@ -83,13 +85,13 @@ fn check_states<'a>(
     n: usize,
     k: usize,
 ) -> Check
-    requires { ⌜ (k < 12) × (n ≤ 6) × (from + n ≤ length (now plan)) × (length (now v) ≡ 120) × Bounded 20000 (now v) ⌝ }
-    requires { ⌜ Bounded 16384 (now a) × Bounded 16384 (now b) × Bounded 16777216 (now drift) × Bounded 20000 (now start) × Bounded 20000 (now low) × Bounded 20000 (now high) ⌝ }
+    requires { ⌜ (k < 12) × (n ≤ 6) × (from + n ≤ length (now plan)) × (length (now v) ≡ 120) × Bounded mostNumber (now v) ⌝ }
+    requires { ⌜ Bounded mostEntry (now a) × Bounded mostEntry (now b) × Bounded mostDrift (now drift) × Bounded mostNumber (now start) × Bounded mostNumber (now low) × Bounded mostNumber (now high) ⌝ }
     ensures { λ r. ⌜ r ≡ first n (λ i. stateCheck
         (modelSum 6 4 (stateMatrix (now (a .entry))) (inputMatrix (now (b .entry))) (at (now (drift .entry)))
         (stateAt (at (now (start .entry))) (paddedPlan (now (v .entry)) .x) k) (paddedPlan (now (v .entry)) .u k) i)
         (at (now (low .entry)) (10 * k + (4 + i))) (at (now (high .entry)) (10 * k + (4 + i))) (at (now (plan .entry)) (from + i))) ⌝ }
-    ensures { λ r. ⌜ Filled r (10 * k + 4) n (λ i. at (now (plan .entry)) (from + i)) (now (v .entry)) (now (v .exit)) ⌝ }
+    ensures { λ r. ⌜ FilledWhenPassed r (10 * k + 4) n (λ i. at (now (plan .entry)) (from + i)) (now (v .entry)) (now (v .exit)) ⌝ }
 {
     let mut i: usize = 0;
     while i < n {
@@ -114,7 +116,7 @@ fn check_step(t: Tape, terms: Terms, plan: &[i32], v: [i64; 120], k: usize) -> W
     requires { ⌜ Legal t × TermsOf t (terms .penalty) (terms .low) (terms .high) (terms .reference) × (k < t .horizon) ⌝ }
     requires { ⌜ (length (now plan) ≡ t .horizon * (t .n + t .m)) × HeldPlan (t .n) (t .m) k (planOf (t .n) (t .m) (now plan)) v ⌝ }
     ensures { λ r. ⌜ r .check ≡ stepCheck (problemOf t) (planOf (t .n) (t .m) (now (plan .entry))) k ⌝ }
-    ensures { λ r. ⌜ HeldWhere (r .check) (t .n) (t .m) (k + 1) (planOf (t .n) (t .m) (now (plan .entry))) (r .plan) ⌝ }
+    ensures { λ r. ⌜ HeldWhenPassed (r .check) (t .n) (t .m) (k + 1) (planOf (t .n) (t .m) (now (plan .entry))) (r .plan) ⌝ }
 {
     let n = t.n;
     let m = t.m;
@@ -152,7 +154,7 @@ fn check_step(t: Tape, terms: Terms, plan: &[i32], v: [i64; 120], k: usize) -> W
 pub fn checked_plan(t: Tape, terms: Terms, plan: &[i32]) -> Walk
     requires { ⌜ Legal t × TermsOf t (terms .penalty) (terms .low) (terms .high) (terms .reference) × (length (now plan) ≡ t .horizon * (t .n + t .m)) ⌝ }
     ensures { λ r. ⌜ r .check ≡ planCheck (problemOf t) (planOf (t .n) (t .m) (now (plan .entry))) ⌝ }
-    ensures { λ r. ⌜ HeldWhere (r .check) (t .n) (t .m) (t .horizon) (planOf (t .n) (t .m) (now (plan .entry))) (r .plan) ⌝ }
+    ensures { λ r. ⌜ HeldWhenPassed (r .check) (t .n) (t .m) (t .horizon) (planOf (t .n) (t .m) (now (plan .entry))) (r .plan) ⌝ }
 {
     let horizon = t.horizon;
     let mut v = [0i64; 120];

@@ -13,12 +13,12 @@ use Rattle.tape.specs.declared.Tape.{Tape}
 use Rattle.tape.specs.declared.refusal.Refusal.{Refusal}
 use Rattle.tape.specs.declared.refusal.Refusal.the-variants.{Cut, Unknown, Misplaced, NoSuchPlace, OutOfRange, Twice, Absent, Overrun}
 use Rattle.tape.specs.declared.refusal.Refusal.the-variants.{Length, OffModel, OverLimit, Multiplier, Wide, NotShown, Open}
-use Rattle.tape.specs.Format.{outside}
+use Rattle.integer.specs.Tests.{outside}
 use Rattle.tape.specs.Reading.{reading}
 use Rattle.tape.specs.Refusals.{row, figure}
 use Rattle.tape.proofs.Facts.{legal}
 use Rattle.tape.proofs.Offsets.{Carrying, carrying}
-use Rattle.tape.proofs.Tests.{by-test}
+use Rattle.integer.proofs.Tests.{by-test}
 use Rattle.problem.specs.Model.{Problem, Plan, problemOf, planOf, multipliersOf, rounded}
 use Rattle.problem.specs.Dual.{floor, floorOf, ceiling}
 use Rattle.judge.specs.declared.Judged.{Judged}
@@ -28,7 +28,7 @@ use Rattle.judge.specs.declared.Shown.the-variants as showing
 use Rattle.judge.specs.declared.walk.Check.{Check}
 use Rattle.judge.specs.declared.walk.Check.the-variants as check
 use Rattle.judge.specs.Checks.{orElse, first, limits, meets, stateCheck, stepCheck, planCheck, wrongMultipliers}
-use Rattle.judge.specs.Judging.{wrongPlanLength, wrongMultipliersLength, gapWithin, afterCheck, judgedOn, afterRead, judged}
+use Rattle.judge.specs.Judging.{wrongPlanLength, wrongMultipliersLength, gapWithin, afterCheck, judgedOn, judgedAfterRead, judged}
 use Rattle.judge.specs.Judging.{floorAbove, shownOn, shownAfterRead, shown}
 use Rattle.solver.specs.declared.Solved.{Solved}
 use Rattle.solver.specs.declared.Solved.the-variants as solved
@@ -120,7 +120,7 @@ small-judged s plan y = go (reading s .answer) (small-read s)
     checked check.Passed gap passed = by-test SmallJudged (ltZ (t .wanted) gap) (λ _. omega arith) (λ _. tt)
     checked (check.Refused why) gap (refused h) = h
 
-    go : (a : Answer) → SmallRead a → SmallJudged (afterRead a (judgedOn t plan y))
+    go : (a : Answer) → SmallRead a → SmallJudged (judgedAfterRead a (judgedOn t plan y))
     go answer.Accepted h =
         by-test SmallJudged (wrongPlanLength t plan || wrongMultipliersLength t y) (λ _. omega arith)
         (λ _. by-test SmallJudged (wrongMultipliers y) (λ _. omega arith) (λ _. checked _ _ (small-plan (problemOf t) (planOf (t .n) (t .m) plan))))
@@ -182,7 +182,7 @@ small-solved s plan y b = small-answer t (go (reading s .answer) refl (small-rea
     t : Tape
     t = reading s .tape
 
-    go : (a : Answer) → reading s .answer ≡ a → SmallRead a → SmallEnding (solve.afterRead a (solvingOn t plan y))
+    go : (a : Answer) → reading s .answer ≡ a → SmallRead a → SmallEnding (solve.endingAfterRead a (solvingOn t plan y))
     go answer.Accepted e h =
         by-test SmallEnding (wrongPlanLength t plan || wrongMultipliersLength t y) (λ _. refused (omega arith))
         (λ _. small-rounds t (t .rounds) 0 _ _ (legal s b e .rounds .1) (omega arith))

@@ -21,8 +21,8 @@ codeOf why = row why .number + 256 * figure (row why .carries)
 -- ---- read
 
 -- The 118 numbers of a tape: n, m, N; A, B, w; lo, hi, r, h of each column; x(0); g, R, T.
-abbrev pub numbersOf : Tape → List ℤ
-numbersOf t =
+abbrev pub readNumbers : Tape → List ℤ
+readNumbers t =
     (pos (t .n) ∷ pos (t .m) ∷ pos (t .horizon) ∷ [])
     ++ t .a ++ t .b ++ t .drift ++ t .low ++ t .high ++ t .reference ++ t .weight ++ t .start
     ++ (t .gain ∷ pos (t .rounds) ∷ t .wanted ∷ [])
@@ -33,7 +33,7 @@ readCode (answer.Refused why) = codeOf why
 
 -- `out` at exit, given what it held at entry
 abbrev pub readLeft : Answer → Tape → List ℤ → List ℤ
-readLeft answer.Accepted t before = numbersOf t
+readLeft answer.Accepted t before = readNumbers t
 readLeft (answer.Refused why) t before = before
 
 -- ---- judge a plan

@@ -10,7 +10,7 @@ ghost use Rattle.tape.specs.Reading.{reading};
 ghost use Rattle.tape.specs.Refusals.{row, figure};
 ghost use Rattle.judge.specs.Judging.{judged, shown};
 ghost use Rattle.solver.specs.Solving.{solving, answerOf, planLeft, multipliersLeft};
-ghost use Rattle.planner.specs.Calls.{codeOf, numbersOf, readCode, readLeft, judgedCode, judgedLeft, shownCode, solvedCode, solvedLeft};
+ghost use Rattle.planner.specs.Calls.{codeOf, readNumbers, readCode, readLeft, judgedCode, judgedLeft, shownCode, solvedCode, solvedLeft};
 ghost use Rattle.planner.specs.Demand.{BackedBy, FoundedBy, UpheldBy, AgainBy, RoundsBy};
 use judge::Judged;
 use judge::Shown;
@@ -129,7 +129,7 @@ fn put(out: &mut [i64; 118], first: usize, from: &[i64])
 
 fn numbers_of(t: Tape) -> [i64; 118]
     requires { ⌜ Legal t ⌝ }
-    ensures { λ r. ⌜ r ≡ numbersOf t ⌝ }
+    ensures { λ r. ⌜ r ≡ readNumbers t ⌝ }
 {
     let mut out = [0i64; 118];
     let sizes = [t.n as i64, t.m as i64, t.horizon as i64];

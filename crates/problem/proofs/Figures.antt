@@ -9,7 +9,8 @@ use Rattle.integer.specs.Operand.{unsigned, signed}
 use Rattle.integer.specs.Quotient.{_÷_}
 use Rattle.integer.specs.Sum.{sum}
 use Rattle.tape.specs.declared.Tape.{Tape}
-use Rattle.tape.specs.Format.{sizeCommand, stateCommand, inputCommand, driftCommand, columnCommand, startCommand, roundsCommand, decoded, wrongSize, beyond, outside, wrongColumn, wrong}
+use Rattle.integer.specs.Tests.{outside}
+use Rattle.tape.specs.Format.{sizeCommand, stateCommand, inputCommand, driftCommand, columnCommand, startCommand, roundsCommand, decoded, wrongSize, beyond, wrongColumn, wrong}
 use Rattle.tape.specs.Reading.{obeySize, obeyEntry, lacks, absent, obeyEnd, obey, next, readFrom, reading}
 use Rattle.problem.specs.Model.{problemOf, planOf, stateAt, modelSum, rounded, sumAt}
 use Rattle.problem.specs.Cost.{total, cost, planCost, costOf}

@@ -10,7 +10,7 @@ use borrow.Author.Tests.{lt-ltb, le-ltb}
 use Rattle.integer.specs.Order.{_≼_, _≺_}
 use Rattle.integer.proofs.Order.{order}
 use Rattle.integer.proofs.Places.{lt-or-le}
-use Rattle.slip_text.specs.Decimal.{text, digit, digits, decimal, signed}
+use Rattle.slip_text.specs.Decimal.{text, digit, digits, decimal, signedDecimal}
 
 -- a number below 10, whatever the divisions
 one : (k x : ℕ) → x < 10 → digits k x ≡ digit x ∷ []
@@ -46,10 +46,10 @@ decimal-length (suc k) x h =
     (λ s. rw (decimal-more x s, length-append) (omega (arith, decimal-length k (x / 10) (omega arith))))
     (lt-or-le x 10)
 
-pub signed-below : (x : ℤ) → x ≺ pos 0 → signed x ≡ text "-" ++ decimal (natAbs x)
+pub signed-below : (x : ℤ) → x ≺ pos 0 → signedDecimal x ≡ text "-" ++ decimal (natAbs x)
 signed-below (pos x) h = let z : ⊥ = omega (arith, order) in absurd z
 signed-below (negsuc x) h = refl
 
-pub signed-from : (x : ℤ) → pos 0 ≼ x → signed x ≡ decimal (natAbs x)
+pub signed-from : (x : ℤ) → pos 0 ≼ x → signedDecimal x ≡ decimal (natAbs x)
 signed-from (pos x) h = refl
 signed-from (negsuc x) h = let z : ⊥ = omega (arith, order) in absurd z

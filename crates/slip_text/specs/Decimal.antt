@@ -23,6 +23,6 @@ digits (suc k) x = cond (ltb x 10) (digit x ∷ []) (digits k (x / 10) ++ (digit
 abbrev pub decimal : ℕ → List ℕ
 decimal x = digits x x
 
-abbrev pub signed : ℤ → List ℕ
-signed (pos x) = decimal x
-signed (negsuc x) = text "-" ++ decimal (suc x)
+abbrev pub signedDecimal : ℤ → List ℕ
+signedDecimal (pos x) = decimal x
+signedDecimal (negsuc x) = text "-" ++ decimal (suc x)

@@ -11,7 +11,7 @@ use Rattle.solver.specs.declared.Duties.{Duties}
 use Rattle.solver.specs.declared.Solved.{Solved}
 use Rattle.solver.specs.declared.Solved.the-variants.{Proved, Impossible, Refused}
 use Rattle.solver.specs.Solving.{answerOf, solving}
-use Rattle.slip_text.specs.Decimal.{text, decimal, signed}
+use Rattle.slip_text.specs.Decimal.{text, decimal, signedDecimal}
 
 -- Every line ends with a newline.
 abbrev pub line : List ℕ → List ℕ
@@ -21,11 +21,11 @@ abbrev pub roundsLine : ℕ → List ℕ
 roundsLine R = line (text "rounds " ++ decimal R)
 
 abbrev pub gapLine : ℤ → List ℕ
-gapLine gap = line (text "gap " ++ signed gap)
+gapLine gap = line (text "gap " ++ signedDecimal gap)
 
 -- Duties with a blank before each.
 abbrev pub blankAnd : ℤ → List ℕ
-blankAnd duty = text " " ++ signed duty
+blankAnd duty = text " " ++ signedDecimal duty
 
 abbrev pub spaced : List ℤ → List ℕ
 spaced [] = []

@@ -3,7 +3,7 @@ ghost use Prim.Native.Nat.{_+_, _<_, _≤_};
 ghost use mathlib.Core.Path.{_≡_};
 ghost use mathlib.Core.List.{_∷_, []};
 ghost use lib.ListN.{length};
-ghost use Rattle.slip_text.specs.Decimal.{decimal, signed};
+ghost use Rattle.slip_text.specs.Decimal.{decimal, signedDecimal};
 ghost use Rattle.slip_text.specs.Written.{Holds, Appended};
 use integer::number::size;
 
@@ -68,7 +68,7 @@ impl Text {
 
     pub(crate) fn with_signed(self, x: i64) -> Text
         requires { ⌜ self .length + 21 ≤ 160 ⌝ }
-        ensures { λ r. ⌜ Appended self (signed x) 21 r ⌝ }
+        ensures { λ r. ⌜ Appended self (signedDecimal x) 21 r ⌝ }
     {
         if x < 0 {
             let minus = self.with_byte(b'-');

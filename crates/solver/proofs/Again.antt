@@ -6,33 +6,34 @@ use mathlib.Core.List.{List, [], _∷_}
 use native.Mathlib.Omega.{arith}
 use borrow.Author.Tests.{eq-eqb}
 use lib.ListN.{length}
-use lib.IntN.{ℤ, pos, negsuc, _-ℤ_}
+use lib.IntN.{ℤ, pos, _-ℤ_, negℤ}
 use lib.Signed.{leZ, ltZ}
 use Rattle.integer.specs.Places.{Bounded}
 use Rattle.integer.proofs.Order.{order}
 use Rattle.integer.proofs.Limited.{size-limited}
 use Rattle.integer.proofs.Operand.{Bytes}
+use Rattle.tape.specs.Ranges.{mostMultiplier}
 use Rattle.tape.specs.declared.Answer.{Answer}
 use Rattle.tape.specs.declared.Answer.the-variants as answer
 use Rattle.tape.specs.declared.Tape.{Tape}
 use Rattle.tape.specs.Reading.{reading}
-use Rattle.tape.proofs.Tests.{by-test, None, none, in-range, not-less}
+use Rattle.integer.proofs.Tests.{by-test, None, none, in-range, not-less, any-none}
 use Rattle.problem.specs.Model.{Problem, Plan, problemOf, planOf, rounded}
 use Rattle.problem.specs.Cost.{planCost, Follows}
 use Rattle.problem.specs.Dual.{floorOf, ceiling}
 use Rattle.problem.proofs.Congruence.{model-cong, cost-cong}
 use Rattle.judge.specs.declared.Judged.the-variants.{Gap}
 use Rattle.judge.specs.declared.Shown.the-variants.{Shown}
-use Rattle.judge.specs.Checks.{any}
+use Rattle.integer.specs.Tests.{any}
 use Rattle.judge.specs.Judging.{wrongPlanLength, wrongMultipliersLength, gapWithin, judgedOn, judged, floorAbove, shownOn, shown}
 use Rattle.judge.proofs.Steps.{states-before}
-use Rattle.judge.proofs.Multipliers.{any-none, bounded-multipliers}
+use Rattle.judge.proofs.Multipliers.{bounded-multipliers}
 use Rattle.judge.proofs.Accepted.{passes, backed, founded}
 use Rattle.solver.specs.declared.Solved.{Solved}
 use Rattle.solver.specs.declared.Solved.the-variants.{Proved, Impossible, Refused}
 use Rattle.solver.specs.Lent.{lentPlan}
 use Rattle.solver.specs.Rounds.{ahead, modelStates, candidate, exceeds, dropped, verdict}
-use Rattle.solver.specs.Solving.{aheadOf, candidateOf, Ending, ended, rounds, solvingOn, afterRead, solving, answerOf, planLeft, multipliersLeft}
+use Rattle.solver.specs.Solving.{aheadOf, candidateOf, Ending, ended, rounds, solvingOn, endingAfterRead, solving, answerOf, planLeft, multipliersLeft}
 use Rattle.solver.specs.Demand.{Upheld, JudgedAgain, RoundsWithin}
 use Rattle.solver.proofs.Lent.{length-lent-multipliers, lent-multipliers-bounded, length-lent-plan, lent-plan-input, lent-plan-state}
 use Rattle.solver.proofs.ModelStates.{model-states}
@@ -70,10 +71,10 @@ follows-cong q v w eu ex f = record {
 -- ---- A round's verdict is the judge's answer
 
 -- each multiplier of a round is limited to the range
-ahead-bounded : (t : Tape) (k : ℕ) (y previous : List ℤ) → Bounded 16777216 (aheadOf t k y previous)
+ahead-bounded : (t : Tape) (k : ℕ) (y previous : List ℤ) → Bounded mostMultiplier (aheadOf t k y previous)
 unfolding ahead
 ahead-bounded t k y previous =
-    lent-multipliers-bounded (t .n) (t .horizon) _ (λ _ _ _ _. size-limited (negsuc 16777215) (pos 16777216) _ (omega arith) (omega arith))
+    lent-multipliers-bounded (t .n) (t .horizon) _ (λ _ _ _ _. size-limited (negℤ (pos mostMultiplier)) (pos mostMultiplier) _ (omega arith) (omega arith))
 
 -- the plan that a round from y writes, and its gap
 abbrev written : Tape → List ℤ → List ℤ
@@ -82,7 +83,7 @@ written t y = lentPlan (t .n) (t .m) (t .horizon) (candidateOf t y)
 abbrev gap : Tape → List ℤ → ℤ
 gap t y = planCost (problemOf t) (candidateOf t y) -ℤ floorOf t y
 
-module _ (t : Tape) (y : List ℤ) (long : length y ≡ t .horizon * t .n) (bounded : Bounded 16777216 y) where
+module _ (t : Tape) (y : List ℤ) (long : length y ≡ t .horizon * t .n) (bounded : Bounded mostMultiplier y) where
   gap-again : dropped (problemOf t) (candidateOf t y) ≡ false → leZ (gap t y) (t .wanted) ≡ true → judgedOn t (written t y) y ≡ Gap (gap t y)
   unfolding judgedOn gapWithin
   gap-again d g =
@@ -118,7 +119,7 @@ module _ (s : List ℕ) (plan y : List ℤ) where
   Again e = RoundsWithin (answerOf t e) (t .rounds) × JudgedAgain (answerOf t e) s (planLeft e plan) (multipliersLeft e y)
 
   module _ (accepted : reading s .answer ≡ answer.Accepted) where
-    round-again : (k : ℕ) (y~ : List ℤ) (after : Ending) → k + 1 ≤ t .rounds → length y~ ≡ t .horizon * t .n → Bounded 16777216 y~ → Again after →
+    round-again : (k : ℕ) (y~ : List ℤ) (after : Ending) → k + 1 ≤ t .rounds → length y~ ≡ t .horizon * t .n → Bounded mostMultiplier y~ → Again after →
         Again (ended (verdict t (candidateOf t y~) (floorOf t y~)) (k + 1) (written t y~) y~ after)
     unfolding verdict judged shown
     round-again k y~ after h l b a =
@@ -140,7 +141,7 @@ module _ (s : List ℕ) (plan y : List ℤ) where
   unfolding solving solvingOn
   solving-again = go (reading s .answer) refl
     where
-      go : (a : Answer) → reading s .answer ≡ a → Again (afterRead a (solvingOn t plan y))
+      go : (a : Answer) → reading s .answer ≡ a → Again (endingAfterRead a (solvingOn t plan y))
       go answer.Accepted e =
           by-test Again (wrongPlanLength t plan || wrongMultipliersLength t y) (λ _. (tt, tt)) (λ _. rounds-again e (t .rounds) 0 _ _ (omega arith))
       go (answer.Refused why) e = (tt, tt)

@@ -3,26 +3,27 @@ use Prim.Native.Nat.{ℕ, _≤_}
 use mathlib.Core.Path.{_≡_}
 use native.Mathlib.Omega.{arith}
 use native.Mathlib.Nat.{zero-div}
-use lib.IntN.{ℤ, pos, negsuc, natAbs, _+ℤ_, _-ℤ_, zero-*ℤ, *ℤ-zero}
+use lib.IntN.{ℤ, pos, natAbs, _+ℤ_, _-ℤ_, zero-*ℤ, *ℤ-zero, negℤ}
 use Rattle.integer.specs.Limited.{limited}
 use Rattle.integer.specs.Order.{_≼_}
 use Rattle.integer.specs.Quotient.{_÷_}
 use Rattle.integer.proofs.Order.{order}
 use Rattle.integer.proofs.Limited.{limited-low, limited-high, size-limited}
+use Rattle.tape.specs.Ranges.{mostNumber, mostMultiplier}
 use Rattle.problem.specs.Model.{Term}
 use Rattle.problem.specs.Cost.{Within}
 use Rattle.evaluate.specs.Terms.{blankTerm}
 use Rattle.solver.specs.Rounds.{ahead, minimiser, ascended}
 
-pub size-ahead : (k y previous : ℤ) → natAbs (ahead k y previous) ≤ 16777216
+pub size-ahead : (k y previous : ℤ) → natAbs (ahead k y previous) ≤ mostMultiplier
 unfolding ahead
-size-ahead k y previous = size-limited (negsuc 16777215) (pos 16777216) _ (omega arith) (omega arith)
+size-ahead k y previous = size-limited (negℤ (pos mostMultiplier)) (pos mostMultiplier) _ (omega arith) (omega arith)
 
-pub size-ascended : (gain y e : ℤ) → natAbs (ascended gain y e) ≤ 16777216
+pub size-ascended : (gain y e : ℤ) → natAbs (ascended gain y e) ≤ mostMultiplier
 unfolding ascended
-size-ascended gain y e = size-limited (negsuc 16777215) (pos 16777216) _ (omega arith) (omega arith)
+size-ascended gain y e = size-limited (negℤ (pos mostMultiplier)) (pos mostMultiplier) _ (omega arith) (omega arith)
 
-pub size-minimiser : (t : Term) (s : ℤ) → natAbs (t .low) ≤ 20000 → natAbs (t .high) ≤ 20000 → natAbs (minimiser t s) ≤ 20000
+pub size-minimiser : (t : Term) (s : ℤ) → natAbs (t .low) ≤ mostNumber → natAbs (t .high) ≤ mostNumber → natAbs (minimiser t s) ≤ mostNumber
 unfolding minimiser
 size-minimiser t s l h = size-limited (t .low) (t .high) _ l h
 

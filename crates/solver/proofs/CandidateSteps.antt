@@ -6,22 +6,21 @@ use mathlib.Core.List.{List}
 use native.Mathlib.Omega.{arith}
 use lib.IntN.{ℤ}
 use Rattle.integer.specs.Places.{at, Bounded, Stretch}
+use Rattle.tape.specs.Ranges.{mostNumber}
 use Rattle.tape.specs.declared.Tape.{Tape}
-use Rattle.tape.specs.Format.{outside}
+use Rattle.integer.specs.Tests.{outside, any}
 use Rattle.tape.specs.Legal.{Legal}
-use Rattle.tape.proofs.Tests.{not-outside}
+use Rattle.integer.proofs.Tests.{not-outside, any-none, any-all, any-cong}
 use Rattle.problem.specs.Model.{Problem, Plan, problemOf, rounded}
 use Rattle.evaluate.specs.Padded.{paddedPlan}
 use Rattle.evaluate.specs.Terms.{TermsOf}
 use Rattle.evaluate.proofs.LinearSizes.{modelAt}
 use Rattle.evaluate.proofs.Padding.{model-padded}
-use Rattle.judge.specs.Checks.{any}
-use Rattle.judge.specs.Held.{HeldPlan}
-use Rattle.judge.proofs.Multipliers.{any-none, any-all}
+use Rattle.evaluate.specs.Held.{HeldPlan}
 use Rattle.judge.proofs.Steps.{range-size, stretch-bounded, stretch-cong, stretch-beside, model-held, held-next}
 use Rattle.solver.specs.Rounds.{modelStates, candidate, exceeds}
 use Rattle.solver.specs.Held.{InputsWithin}
-use Rattle.solver.proofs.ModelStates.{model-states, any-cong}
+use Rattle.solver.proofs.ModelStates.{model-states}
 
 -- ---- What the loop of a step tests and stores
 
@@ -33,8 +32,8 @@ abbrev pub isOver : List ℤ → List ℤ → List ℤ → List ℤ → List ℤ
 isOver a b drift start low high v k i = outside (at low (10 * k + (4 + i))) (at high (10 * k + (4 + i))) (nextState a b drift start v k i)
 
 -- states that are within their limits are no larger than these
-pub step-bounded : (a b drift start low high : List ℤ) {v z : List ℤ} (k n : ℕ) → Bounded 20000 low → Bounded 20000 high → Bounded 20000 v →
-    any n (isOver a b drift start low high v k) ≡ false → Stretch (10 * k + 4) n (nextState a b drift start v k) v z → Bounded 20000 z
+pub step-bounded : (a b drift start low high : List ℤ) {v z : List ℤ} (k n : ℕ) → Bounded mostNumber low → Bounded mostNumber high → Bounded mostNumber v →
+    any n (isOver a b drift start low high v k) ≡ false → Stretch (10 * k + 4) n (nextState a b drift start v k) v z → Bounded mostNumber z
 step-bounded a b drift start low high {v} k n hl hh hv none filled =
     stretch-bounded hv
     (λ i l. let p = 10 * k + (4 + i) in
@@ -75,7 +74,7 @@ module _ {t : Tape} {penalty low high reference : List ℤ} (legal : Legal t) (t
       (any-cong (t .n) _ _ (λ i b. sym (ap₂ exceeds (terms .state k i early b) (states-are i)))))
 
   -- no state is over its limits, and all are stored in z
-  pub step-begun : {z : List ℤ} → Bounded 20000 low → Bounded 20000 high → any (t .n) (isOver (t .a) (t .b) (t .drift) (t .start) low high l k) ≡ false →
+  pub step-begun : {z : List ℤ} → Bounded mostNumber low → Bounded mostNumber high → any (t .n) (isOver (t .a) (t .b) (t .drift) (t .start) low high l k) ≡ false →
       Stretch (10 * k + 4) (t .n) (nextState (t .a) (t .b) (t .drift) (t .start) l k) l z → Begun t u (k + 1) z
   step-begun hl hh none filled = record {
     held =

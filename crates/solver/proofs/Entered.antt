@@ -7,6 +7,7 @@ use lib.ListN.{replicate}
 use lib.IntN.{ℤ, pos, _-ℤ_, _*ℤ_}
 use Rattle.integer.specs.Places.{Bounded}
 use Rattle.integer.proofs.Places.{zeros}
+use Rattle.tape.specs.Ranges.{mostMultiplier}
 use Rattle.tape.specs.declared.Tape.{Tape}
 use Rattle.tape.specs.declared.refusal.Refusal.the-variants.{Open}
 use Rattle.tape.specs.Legal.{Legal}
@@ -14,14 +15,14 @@ use Rattle.problem.specs.Model.{problemOf, multipliersOf, residual}
 use Rattle.problem.specs.Dual.{floor, floorOf}
 use Rattle.problem.proofs.Congruence.{model-cong, cost-cong, inputSlope-cong, stateSlope-cong, floor-cong}
 use Rattle.evaluate.specs.Padded.{padded, paddedPlan}
-use Rattle.judge.specs.Held.{BlankMultipliers, HeldMultipliers, HeldPlan}
+use Rattle.evaluate.specs.Held.{BlankMultipliers, HeldMultipliers, HeldPlan}
 use Rattle.judge.proofs.Steps.{states-before}
 use Rattle.solver.specs.declared.rounds.Verdict.{Verdict}
 use Rattle.solver.specs.declared.rounds.Verdict.the-variants.{Proved, Impossible, Neither}
 use Rattle.solver.specs.Lent.{lentMultipliers, lentPlan}
 use Rattle.solver.specs.Rounds.{ahead, minimiser, minimisers, candidate, verdict, ascended}
-use Rattle.solver.specs.Solving.{aheadOf, numbersOf, candidateOf, ascendedOf, Ending, proved, impossible, refused, ended, entered, rounds, start}
-use Rattle.solver.specs.Held.{HeldWhere}
+use Rattle.solver.specs.Solving.{aheadOf, minimisersOf, candidateOf, ascendedOf, Ending, proved, impossible, refused, ended, entered, rounds, start}
+use Rattle.solver.specs.Held.{HeldWhenProved}
 use Rattle.solver.proofs.Filled.{zeros-bounded}
 use Rattle.solver.proofs.Lent.{lent-multipliers-at, lent-multipliers-cong, lent-plan-cong}
 use Rattle.solver.proofs.ModelStates.{modelStates-cong, dropped-cong}
@@ -36,8 +37,8 @@ pub record Running (t : Tape) (k : ℕ) (current previous : List ℤ) : Type 0 w
   pub left : rounds t (t .rounds) 0 (start t) (start t) ≡ rounds t (t .rounds - k) k (lentOf t current) (lentOf t previous)
   pub blank : BlankMultipliers (t .n) current
   pub blank-previous : BlankMultipliers (t .n) previous
-  pub bounded : Bounded 16777216 current
-  pub bounded-previous : Bounded 16777216 previous
+  pub bounded : Bounded mostMultiplier current
+  pub bounded-previous : Bounded mostMultiplier previous
 
 module _ (t : Tape) (legal : Legal t) where
   abbrev lent : List ℤ → List ℤ
@@ -72,12 +73,12 @@ module _ (t : Tape) (legal : Legal t) where
 
   -- from y~ on: l holds it, and v the numbers of step 2
   module _ (l : List ℤ) {v : List ℤ} (numbers : HeldPlan (t .n) (t .m) (t .horizon) (minimisers (problemOf t) (padded l)) v) where
-    inputs-same : (k j : ℕ) → k < t .horizon → j < t .m → numbersOf t (lent l) .u k j ≡ paddedPlan v .u k j
+    inputs-same : (k j : ℕ) → k < t .horizon → j < t .m → minimisersOf t (lent l) .u k j ≡ paddedPlan v .u k j
     inputs-same k j h m =
         ap (minimiser (problemOf t .inputTerm k j)) (inputSlope-cong (problemOf t) _ (padded l) (legal .steps .0) (lent-at l) k j h)
         ∙ sym (numbers .input k j h m)
 
-    states-same : (k i : ℕ) → k < t .horizon → i < t .n → numbersOf t (lent l) .x k i ≡ paddedPlan v .x k i
+    states-same : (k i : ℕ) → k < t .horizon → i < t .n → minimisersOf t (lent l) .x k i ≡ paddedPlan v .x k i
     states-same k i h m =
         ap (minimiser (problemOf t .stateTerm k i)) (stateSlope-cong (problemOf t) _ (padded l) (legal .steps .0) (lent-at l) k i h m)
         ∙ sym (numbers .state k i h m)
@@ -102,7 +103,7 @@ module _ (t : Tape) (legal : Legal t) where
         (λ k i a b. candidate-same k i a b ∙ sym (h .state k i a b))
 
     -- step 4
-    residual-same : (k i : ℕ) → k < t .horizon → i < t .n → residual (problemOf t) (numbersOf t (lent l)) k i ≡ residual (problemOf t) (paddedPlan v) k i
+    residual-same : (k i : ℕ) → k < t .horizon → i < t .n → residual (problemOf t) (minimisersOf t (lent l)) k i ≡ residual (problemOf t) (paddedPlan v) k i
     unfolding residual
     residual-same k i h m =
         ap₂ (λ (S x : ℤ). S -ℤ pos 4096 *ℤ x)
@@ -131,12 +132,12 @@ module _ (t : Tape) (legal : Legal t) where
           ∙ ap (λ (a : List ℤ). entered t k a (λ next. rounds t (t .rounds - (k + 1)) (k + 1) next (lent y))) (lent-ahead k y previous held)
           ∙ ap (λ (c : Verdict). ended c (k + 1) (lentPlan (t .n) (t .m) (t .horizon) (candidateOf t (lent l))) (lent l) after) (verdict-same ∙ sym e ∙ d)
 
-      pub proved-is : {gap : ℤ} (plan : List ℤ) → r ≡ Proved gap → HeldWhere r t (candidate (problemOf t) (paddedPlan v .u)) plan →
+      pub proved-is : {gap : ℤ} (plan : List ℤ) → r ≡ Proved gap → HeldWhenProved r t (candidate (problemOf t) (paddedPlan v .u)) plan →
           rounds t (t .rounds) 0 (start t) (start t) ≡ proved (k + 1) gap (lentPlan (t .n) (t .m) (t .horizon) (paddedPlan plan)) (lent l)
       proved-is {gap} plan p h =
           whole-is p
           ∙ ap (λ (a : List ℤ). proved (k + 1) gap a (lent l))
-          (lent-candidate (subst (λ (c : Verdict). HeldWhere c t (candidate (problemOf t) (paddedPlan v .u)) plan) p h))
+          (lent-candidate (subst (λ (c : Verdict). HeldWhenProved c t (candidate (problemOf t) (paddedPlan v .u)) plan) p h))
 
       pub impossible-is : r ≡ Impossible → rounds t (t .rounds) 0 (start t) (start t) ≡ impossible (k + 1) (lent l)
       impossible-is p = whole-is p

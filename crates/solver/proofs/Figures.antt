@@ -8,7 +8,8 @@ use Rattle.integer.specs.Operand.{unsigned, signed}
 use Rattle.integer.specs.Quotient.{_÷_}
 use Rattle.integer.specs.Sum.{sum}
 use Rattle.tape.specs.declared.refusal.Refusal.{Refusal}
-use Rattle.tape.specs.Format.{sizeCommand, stateCommand, inputCommand, driftCommand, columnCommand, startCommand, roundsCommand, decoded, wrongSize, beyond, outside, wrongColumn, wrong}
+use Rattle.integer.specs.Tests.{outside, any}
+use Rattle.tape.specs.Format.{sizeCommand, stateCommand, inputCommand, driftCommand, columnCommand, startCommand, roundsCommand, decoded, wrongSize, beyond, wrongColumn, wrong}
 use Rattle.tape.specs.Reading.{obeySize, obeyEntry, lacks, absent, obeyEnd, obey, next, readFrom, reading}
 use Rattle.tape.specs.Refusals.{row, figure}
 use Rattle.problem.specs.Model.{stateAt, modelSum, rounded, residual}
@@ -17,7 +18,7 @@ use Rattle.problem.specs.Dual.{inputSlope, carried, stateSlope, conjugate, tilt
 use Rattle.problem.proofs.Figures.{bytes, wide, narrow, ample, table}
 use Rattle.judge.specs.declared.Judged.{Judged}
 use Rattle.judge.specs.declared.Judged.the-variants as judgement
-use Rattle.judge.specs.Checks.{any, first, limits, meets, stateCheck, stepCheck, planCheck}
+use Rattle.judge.specs.Checks.{first, limits, meets, stateCheck, stepCheck, planCheck}
 use Rattle.judge.specs.Judging.{gapWithin, judgedOn, judged}
 use Rattle.solver.specs.Lent.{listed, joined}
 use Rattle.solver.specs.Rounds.{ahead, minimiser, modelStates, dropped, verdict, ascended}

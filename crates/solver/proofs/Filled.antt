@@ -9,6 +9,7 @@ use lib.IntN.{ℤ, pos, natAbs, _+ℤ_, _-ℤ_, _*ℤ_, zero-*ℤ}
 use Rattle.integer.specs.Places.{at, Bounded, Stretch, Steps}
 use Rattle.integer.proofs.Places.{lt-or-le, zeros, fill-at}
 use Rattle.integer.proofs.Sum.{sum-zero}
+use Rattle.tape.specs.Ranges.{mostNumber, mostMultiplier}
 use Rattle.tape.specs.declared.Tape.{Tape}
 use Rattle.tape.specs.Legal.{Legal}
 use Rattle.problem.specs.Model.{Term, problemOf, stateAt, modelSum, residual}
@@ -18,7 +19,7 @@ use Rattle.evaluate.specs.Terms.{blankTerm, TermsOf}
 use Rattle.evaluate.proofs.LinearSizes.{residualAt}
 use Rattle.evaluate.proofs.Padding.{model-padded, inputSlope-padded, stateSlope-padded}
 use Rattle.evaluate.proofs.Places.{place-input, place-state}
-use Rattle.judge.specs.Held.{BlankMultipliers, BlankPlan, HeldMultipliers, HeldPlan}
+use Rattle.evaluate.specs.Held.{BlankMultipliers, BlankPlan, HeldMultipliers, HeldPlan}
 use Rattle.solver.specs.Rounds.{ahead, minimiser, minimisers, ascended}
 use Rattle.solver.specs.Held.{InputsWithin}
 use Rattle.solver.proofs.Blank.{ahead-zero, ascended-zero, minimiser-blank, size-ahead, size-ascended, size-minimiser, minimiser-within}
@@ -39,11 +40,11 @@ zeros-bounded c = record { each = λ p. rw (zeros c p) (omega arith) }
 -- ---- Multipliers
 
 pub held-multipliers : {n N : ℕ} {f : ℕ → ℤ} {l : List ℤ} → n ≤ 6 → Stretch 0 (6 * N) f (replicate 72 (pos 0)) l →
-    ((p : ℕ) → natAbs (f p) ≤ 16777216) → ((k i : ℕ) → k < N → n ≤ i → i < 6 → f (6 * k + i) ≡ pos 0) → HeldMultipliers n N (λ k i. f (6 * k + i)) l
+    ((p : ℕ) → natAbs (f p) ≤ mostMultiplier) → ((k i : ℕ) → k < N → n ≤ i → i < 6 → f (6 * k + i) ≡ pos 0) → HeldMultipliers n N (λ k i. f (6 * k + i)) l
 held-multipliers {n} {N} {f} {l} few fill size blank = record {
   same = λ k i h m. fill-at fill (6 * k + i) (omega arith);
   blank = record { each = λ k i h m. everywhere 72 fill (λ z. z ≡ pos 0) refl (6 * k + i) (λ r. blank k i (omega arith) h m) };
-  bounded = record { each = λ p. everywhere 72 fill (λ z. natAbs z ≤ 16777216) (omega arith) p (λ _. size p) };
+  bounded = record { each = λ p. everywhere 72 fill (λ z. natAbs z ≤ mostMultiplier) (omega arith) p (λ _. size p) };
 }
 
 -- step 1
@@ -93,7 +94,7 @@ module _ (t : Tape) (legal : Legal t) {penalty low high reference : List ℤ} (t
         };
         bounded = record {
           each = λ p.
-              everywhere 120 fill (λ z. natAbs z ≤ 20000) (omega arith) p
+              everywhere 120 fill (λ z. natAbs z ≤ mostNumber) (omega arith) p
               (λ h. let g = terms .tables .each p (omega arith) in size-minimiser (termAt penalty low high reference p) (at s p) (g .low) (g .high));
         };
         long = fill .same ∙ length-replicate 120 (pos 0);

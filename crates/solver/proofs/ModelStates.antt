@@ -4,9 +4,9 @@ use mathlib.Core.Path.{_≡_, refl, ap, ap₂}
 use mathlib.Core.Bool.{Bool, _||_}
 use native.Mathlib.Omega.{arith}
 use lib.IntN.{ℤ}
+use Rattle.integer.proofs.Tests.{any-cong}
 use Rattle.problem.specs.Model.{Problem, Plan, stateAt, modelSum, rounded}
 use Rattle.problem.proofs.Congruence.{model-cong}
-use Rattle.judge.specs.Checks.{any}
 use Rattle.solver.specs.Rounds.{modelStates, exceeds, dropped}
 
 pub model-states : (q : Problem) (u : ℕ → ℕ → ℤ) (k i : ℕ) →
@@ -22,11 +22,6 @@ modelStates-cong q u w same zero i h l = ap rounded (model-cong (q .n) (q .m) _ 
 modelStates-cong q u w same (suc k) i h l =
     ap rounded
     (model-cong (q .n) (q .m) _ _ _ _ _ _ _ i (λ j. modelStates-cong q u w same k j (omega arith)) (λ j. same (suc k) j h))
-
-pub any-cong : (n : ℕ) (f g : ℕ → Bool) → ((p : ℕ) → p < n → f p ≡ g p) → any n f ≡ any n g
-unfolding any
-any-cong zero f g h = refl
-any-cong (suc n) f g h = ap₂ _||_ (any-cong n f g (λ p l. h p (omega arith))) (h n (omega arith))
 
 pub dropped-cong : (q : Problem) (v w : Plan) → ((k j : ℕ) → k < q .horizon → j < q .m → v .u k j ≡ w .u k j) →
     ((k i : ℕ) → k < q .horizon → i < q .n → v .x k i ≡ w .x k i) → dropped q v ≡ dropped q w

@@ -5,14 +5,14 @@ use mathlib.Core.List.{List}
 use lib.IntN.{ℤ, _-ℤ_}
 use lib.Signed.{leZ, ltZ}
 use Rattle.tape.specs.declared.Tape.{Tape}
-use Rattle.tape.proofs.Tests.{by-test}
+use Rattle.integer.proofs.Tests.{by-test}
 use Rattle.problem.specs.Model.{Plan, problemOf}
 use Rattle.problem.specs.Cost.{planCost}
 use Rattle.problem.specs.Dual.{ceiling}
 use Rattle.solver.specs.declared.rounds.Verdict.{Verdict}
 use Rattle.solver.specs.declared.rounds.Verdict.the-variants.{Proved, Impossible, Neither}
 use Rattle.solver.specs.Rounds.{dropped, verdict}
-use Rattle.solver.specs.Held.{HeldWhere}
+use Rattle.solver.specs.Held.{HeldWhenProved}
 
 -- the verdict on the floor alone
 abbrev pub onFloor : ℤ → ℤ → Verdict
@@ -35,5 +35,5 @@ module _ (t : Tape) (v : Plan) (floor : ℤ) where
   when-wide d e = rw (d, e)
 
   -- it promises nothing of the plan
-  pub nothing-held : {r : Verdict} (l : List ℤ) (highest : ℤ) → r ≡ onFloor highest floor → HeldWhere r t v l
-  nothing-held l highest e = rw e (by-test (λ r. HeldWhere r t v l) (ltZ highest floor) (λ _. tt) (λ _. tt))
+  pub nothing-held : {r : Verdict} (l : List ℤ) (highest : ℤ) → r ≡ onFloor highest floor → HeldWhenProved r t v l
+  nothing-held l highest e = rw e (by-test (λ r. HeldWhenProved r t v l) (ltZ highest floor) (λ _. tt) (λ _. tt))

@@ -8,7 +8,7 @@ use Rattle.tape.specs.declared.Tape.{Tape}
 use Rattle.problem.specs.Model.{Problem, Plan}
 use Rattle.problem.specs.Cost.{Within}
 use Rattle.evaluate.specs.Padded.{padded, paddedPlan}
-use Rattle.judge.specs.Held.{HeldPlan}
+use Rattle.evaluate.specs.Held.{HeldPlan}
 use Rattle.solver.specs.declared.rounds.Verdict.{Verdict}
 use Rattle.solver.specs.declared.rounds.Verdict.the-variants.{Proved, Impossible, Neither}
 use Rattle.solver.specs.declared.rounds.Ended.{Ended}
@@ -32,10 +32,10 @@ HeldUnless true t v l = Unit {0}
 HeldUnless false t v l = HeldPlan (t .n) (t .m) (t .horizon) v l
 
 -- where the verdict is 'proved', the array holds the candidate
-abbrev pub HeldWhere : Verdict → Tape → Plan → List ℤ → Type 0
-HeldWhere (Proved gap) t v l = HeldPlan (t .n) (t .m) (t .horizon) v l
-HeldWhere Impossible t v l = Unit {0}
-HeldWhere Neither t v l = Unit {0}
+abbrev pub HeldWhenProved : Verdict → Tape → Plan → List ℤ → Type 0
+HeldWhenProved (Proved gap) t v l = HeldPlan (t .n) (t .m) (t .horizon) v l
+HeldWhenProved Impossible t v l = Unit {0}
+HeldWhenProved Neither t v l = Unit {0}
 
 -- the end of the rounds, with the plan and the multipliers that padded arrays hold
 abbrev pub endingOf : Tape → Ended → List ℤ → List ℤ → Ending

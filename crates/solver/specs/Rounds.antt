@@ -1,22 +1,22 @@
 -- Document 01, "The rounds": the four steps of a round.
 use Prim.Native.Nat.{ℕ, zero, suc, _+_}
 use mathlib.Core.Bool.{Bool, false, cond, _||_}
-use lib.IntN.{ℤ, pos, negsuc, _+ℤ_, _-ℤ_, _*ℤ_}
+use lib.IntN.{ℤ, pos, _+ℤ_, _-ℤ_, _*ℤ_, negℤ}
 use lib.Signed.{leZ, ltZ}
 use Rattle.integer.specs.Limited.{limited}
 use Rattle.integer.specs.Quotient.{_÷_}
+use Rattle.tape.specs.Ranges.{mostMultiplier}
 use Rattle.tape.specs.declared.Tape.{Tape}
-use Rattle.tape.specs.Format.{outside}
+use Rattle.integer.specs.Tests.{outside, any}
 use Rattle.problem.specs.Model.{Term, Problem, Plan, problemOf, modelSum, rounded}
 use Rattle.problem.specs.Cost.{planCost}
 use Rattle.problem.specs.Dual.{inputSlope, stateSlope, ceiling}
-use Rattle.judge.specs.Checks.{any}
 use Rattle.solver.specs.declared.rounds.Verdict.{Verdict}
 use Rattle.solver.specs.declared.rounds.Verdict.the-variants.{Proved, Impossible, Neither}
 
 -- Limited to the multiplier range.
 abbrev pub multiplier : ℤ → ℤ
-multiplier y = limited (negsuc 16777215) (pos 16777216) y
+multiplier y = limited (negℤ (pos mostMultiplier)) (pos mostMultiplier) y
 
 -- ---- 1. y~, from y and the y before it
 

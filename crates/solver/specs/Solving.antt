@@ -30,18 +30,18 @@ aheadOf t k y previous =
     lentMultipliers (t .n) (t .horizon) (λ s i. ahead (pos k) (multipliersOf (t .n) y s i) (multipliersOf (t .n) previous s i))
 
 -- 2
-abbrev pub numbersOf : Tape → List ℤ → Plan
-numbersOf t y = minimisers (problemOf t) (multipliersOf (t .n) y)
+abbrev pub minimisersOf : Tape → List ℤ → Plan
+minimisersOf t y = minimisers (problemOf t) (multipliersOf (t .n) y)
 
 -- 3
 abbrev pub candidateOf : Tape → List ℤ → Plan
-candidateOf t y = candidate (problemOf t) (numbersOf t y .u)
+candidateOf t y = candidate (problemOf t) (minimisersOf t y .u)
 
 -- 4
 abbrev pub ascendedOf : Tape → List ℤ → List ℤ
 ascendedOf t y =
     lentMultipliers (t .n) (t .horizon)
-    (λ s i. ascended (t .gain) (multipliersOf (t .n) y s i) (residual (problemOf t) (numbersOf t y) s i))
+    (λ s i. ascended (t .gain) (multipliersOf (t .n) y s i) (residual (problemOf t) (minimisersOf t y) s i))
 
 -- ---- The rounds
 
@@ -78,12 +78,12 @@ unfoldable pub solvingOn : Tape → List ℤ → List ℤ → Ending
 solvingOn t plan y =
     cond (wrongPlanLength t plan || wrongMultipliersLength t y) (refused Length) (rounds t (t .rounds) 0 (start t) (start t))
 
-abbrev pub afterRead : Answer → Ending → Ending
-afterRead answer.Accepted accepted = accepted
-afterRead (answer.Refused why) accepted = refused why
+abbrev pub endingAfterRead : Answer → Ending → Ending
+endingAfterRead answer.Accepted accepted = accepted
+endingAfterRead (answer.Refused why) accepted = refused why
 
 unfoldable pub solving : List ℕ → List ℤ → List ℤ → Ending
-solving s plan y = afterRead (reading s .answer) (solvingOn (reading s .tape) plan y)
+solving s plan y = endingAfterRead (reading s .answer) (solvingOn (reading s .tape) plan y)
 
 -- The first m numbers of a plan are u(0); places beyond m hold 0.
 unfoldable pub duty : ℕ → List ℤ → ℕ → ℤ

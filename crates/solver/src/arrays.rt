@@ -4,6 +4,7 @@ ghost use lib.ListN.{replicate};
 ghost use lib.IntN.{pos, natAbs};
 ghost use Rattle.integer.specs.Order.{_≼_};
 ghost use Rattle.integer.specs.Places.{at, Bounded, Stretch};
+ghost use Rattle.tape.specs.Ranges.{mostGain, mostRounds, mostMultiplier};
 ghost use Rattle.evaluate.specs.Padded.{termAt};
 ghost use Rattle.evaluate.specs.Ranges.{Tables};
 ghost use Rattle.solver.specs.Rounds.{ahead, minimiser, ascended};
@@ -18,7 +19,7 @@ pub fn multipliers_ahead<'a>(
     k: i64,
     horizon: usize,
 ) -> [i64; 72]
-    requires { ⌜ (pos 0 ≼ k) × (k ≼ pos 10000) × (horizon ≤ 12) × Bounded 16777216 (now y) × Bounded 16777216 (now previous) ⌝ }
+    requires { ⌜ (pos 0 ≼ k) × (k ≼ pos mostRounds) × (horizon ≤ 12) × Bounded mostMultiplier (now y) × Bounded mostMultiplier (now previous) ⌝ }
     ensures { λ r. ⌜ Stretch 0 (6 * horizon) (λ p. ahead k (at (now (y .entry)) p) (at (now (previous .entry)) p)) (replicate 72 (pos 0)) r ⌝ }
 {
     let count = 6 * horizon;
@@ -57,7 +58,7 @@ pub fn minimisers<'a>(
 
 // Step 4, from the residuals e.
 pub fn multipliers_ascended(y: &[i64; 72], e: &[i64; 72], gain: i64, horizon: usize) -> [i64; 72]
-    requires { ⌜ (natAbs gain ≤ 65535) × (horizon ≤ 12) × Bounded 16777216 (now y) × Bounded 3375497216 (now e) ⌝ }
+    requires { ⌜ (natAbs gain ≤ mostGain) × (horizon ≤ 12) × Bounded mostMultiplier (now y) × Bounded 3375497216 (now e) ⌝ }
     ensures { λ r. ⌜ Stretch 0 (6 * horizon) (λ p. ascended gain (at (now (y .entry)) p) (at (now (e .entry)) p)) (replicate 72 (pos 0)) r ⌝ }
 {
     let count = 6 * horizon;

@@ -3,20 +3,20 @@ ghost use Prim.Native.Nat.{_+_, _*_, _<_, _≤_};
 ghost use mathlib.Core.Path.{_≡_};
 ghost use lib.ListN.{length};
 ghost use Rattle.integer.specs.Places.{at, Bounded};
-ghost use Rattle.tape.specs.Format.{outside};
+ghost use Rattle.integer.specs.Tests.{outside, any};
+ghost use Rattle.tape.specs.Ranges.{mostEntry, mostDrift, mostNumber};
 ghost use Rattle.tape.specs.Legal.{Legal};
 ghost use Rattle.problem.specs.Model.{problemOf, stateAt, modelSum, rounded};
 ghost use Rattle.evaluate.specs.Padded.{stateMatrix, inputMatrix, paddedPlan};
 ghost use Rattle.evaluate.specs.Terms.{TermsOf};
-ghost use Rattle.judge.specs.Checks.{any};
-ghost use Rattle.judge.specs.Held.{BlankPlan};
+ghost use Rattle.evaluate.specs.Held.{BlankPlan};
 ghost use Rattle.solver.specs.Rounds.{candidate, dropped};
 ghost use Rattle.solver.specs.Held.{InputsWithin, FilledUnless, HeldUnless};
 use evaluate::model::model_sum;
 use evaluate::model::state_of;
 use evaluate::terms::Terms;
+use integer::number::is_outside;
 use tape::Tape;
-use tape::is_outside;
 
 // The candidate's numbers, where it is not dropped.
 pub struct Candidate {
@@ -36,8 +36,8 @@ fn is_step_dropped<'a>(
     n: usize,
     k: usize,
 ) -> bool
-    requires { ⌜ (k < 12) × (n ≤ 6) × (length (now v) ≡ 120) × Bounded 20000 (now v) ⌝ }
-    requires { ⌜ Bounded 16384 (now a) × Bounded 16384 (now b) × Bounded 16777216 (now drift) × Bounded 20000 (now start) × Bounded 20000 (now low) × Bounded 20000 (now high) ⌝ }
+    requires { ⌜ (k < 12) × (n ≤ 6) × (length (now v) ≡ 120) × Bounded mostNumber (now v) ⌝ }
+    requires { ⌜ Bounded mostEntry (now a) × Bounded mostEntry (now b) × Bounded mostDrift (now drift) × Bounded mostNumber (now start) × Bounded mostNumber (now low) × Bounded mostNumber (now high) ⌝ }
     ensures { λ r. ⌜ r ≡ any n (λ i. outside (at (now (low .entry)) (10 * k + (4 + i))) (at (now (high .entry)) (10 * k + (4 + i)))
         (rounded (modelSum 6 4 (stateMatrix (now (a .entry))) (inputMatrix (now (b .entry))) (at (now (drift .entry)))
         (stateAt (at (now (start .entry))) (paddedPlan (now (v .entry)) .x) k) (paddedPlan (now (v .entry)) .u k) i))) ⌝ }
@@ -61,9 +61,9 @@ fn is_step_dropped<'a>(
 // outside its limits: the states after that one could pass 64 bits.
 pub fn candidate_of(t: Tape, terms: Terms, v: [i64; 120]) -> Candidate
     requires { ⌜ Legal t × TermsOf t (terms .penalty) (terms .low) (terms .high) (terms .reference) ⌝ }
-    requires { ⌜ InputsWithin (problemOf t) (paddedPlan v .u) × BlankPlan (t .n) (t .m) v × Bounded 20000 v ⌝ }
+    requires { ⌜ InputsWithin (problemOf t) (paddedPlan v .u) × BlankPlan (t .n) (t .m) v × Bounded mostNumber v ⌝ }
     ensures { λ r. ⌜ r .dropped ≡ dropped (problemOf t) (candidate (problemOf t) (paddedPlan v .u)) ⌝ }
-    ensures { λ r. ⌜ HeldUnless (r .dropped) t (candidate (problemOf t) (paddedPlan v .u)) (r .plan) × Bounded 20000 (r .plan) ⌝ }
+    ensures { λ r. ⌜ HeldUnless (r .dropped) t (candidate (problemOf t) (paddedPlan v .u)) (r .plan) × Bounded mostNumber (r .plan) ⌝ }
 {
     let n = t.n;
     let horizon = t.horizon;

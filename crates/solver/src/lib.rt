@@ -9,6 +9,7 @@ ghost use Prim.Native.Nat.{_+_, _*_, _<_, _≤_};
 ghost use mathlib.Core.Path.{_≡_};
 ghost use lib.ListN.{length};
 ghost use Rattle.integer.specs.Places.{Bounded};
+ghost use Rattle.tape.specs.Ranges.{mostNumber, mostMultiplier};
 ghost use Rattle.tape.specs.Legal.{Legal};
 ghost use Rattle.tape.specs.Reading.{reading};
 ghost use Rattle.evaluate.specs.Padded.{paddedPlan};
@@ -82,7 +83,7 @@ fn solve_on(t: Tape, plan: &mut [i32], multipliers: &mut [i32]) -> Solved
 // The answer to the end of the rounds; the lent slices are written here and nowhere else.
 fn hand_over(t: Tape, outcome: Outcome, plan: &mut [i32], multipliers: &mut [i32]) -> Solved
     requires { ⌜ Legal t × (length (now plan) ≡ t .horizon * (t .n + t .m)) × (length (now multipliers) ≡ t .horizon * t .n) ⌝ }
-    requires { ⌜ Bounded 20000 (outcome .plan) × Bounded 16777216 (outcome .multipliers) ⌝ }
+    requires { ⌜ Bounded mostNumber (outcome .plan) × Bounded mostMultiplier (outcome .multipliers) ⌝ }
     ensures { λ r. ⌜ r ≡ answerOf t (endingOf t (outcome .ended) (outcome .plan) (outcome .multipliers)) ⌝ }
     ensures { λ _. ⌜ now (plan .exit) ≡ planLeft (endingOf t (outcome .ended) (outcome .plan) (outcome .multipliers)) (now (plan .entry)) ⌝ }
     ensures { λ _. ⌜ now (multipliers .exit) ≡ multipliersLeft (endingOf t (outcome .ended) (outcome .plan) (outcome .multipliers)) (now (multipliers .entry)) ⌝ }
@@ -106,7 +107,7 @@ fn hand_over(t: Tape, outcome: Outcome, plan: &mut [i32], multipliers: &mut [i32
 }
 
 fn duty_at(v: &[i64; 120], n: usize, m: usize, horizon: usize, j: usize) -> i32
-    requires { ⌜ (j < 4) × (1 ≤ horizon) × Bounded 20000 (now v) ⌝ }
+    requires { ⌜ (j < 4) × (1 ≤ horizon) × Bounded mostNumber (now v) ⌝ }
     ensures { λ r. ⌜ r ≡ duty m (lentPlan n m horizon (paddedPlan (now (v .entry)))) j ⌝ }
 {
     if j < m {
@@ -116,7 +117,7 @@ fn duty_at(v: &[i64; 120], n: usize, m: usize, horizon: usize, j: usize) -> i32
 }
 
 fn first_duties(v: &[i64; 120], n: usize, m: usize, horizon: usize) -> Duties
-    requires { ⌜ (1 ≤ horizon) × Bounded 20000 (now v) ⌝ }
+    requires { ⌜ (1 ≤ horizon) × Bounded mostNumber (now v) ⌝ }
     ensures { λ r. ⌜ r ≡ firstDuties m (lentPlan n m horizon (paddedPlan (now (v .entry)))) ⌝ }
 {
     Duties {

@@ -3,21 +3,24 @@ ghost use Prim.Native.Nat.{_≤_};
 ghost use mathlib.Core.Path.{_≡_};
 ghost use lib.IntN.{pos, natAbs};
 ghost use Rattle.integer.specs.Order.{_≼_};
+ghost use Rattle.tape.specs.Ranges.{mostGain, mostRounds, mostMultiplier};
 ghost use Rattle.evaluate.specs.Padded.{termOf};
 ghost use Rattle.evaluate.specs.Ranges.{Ranged};
 ghost use Rattle.solver.specs.Rounds.{ahead, minimiser, ascended};
 use integer::number::limit;
 use integer::number::quotient;
+use tape::range::LEAST_MULTIPLIER;
+use tape::range::MOST_MULTIPLIER;
 
 // The multiplier ahead of y in round k, from the one before y.
 pub fn ahead_of(k: i64, y: i64, previous: i64) -> i64
-    requires { ⌜ (pos 0 ≼ k) × (k ≼ pos 10000) × (natAbs y ≤ 16777216) × (natAbs previous ≤ 16777216) ⌝ }
+    requires { ⌜ (pos 0 ≼ k) × (k ≼ pos mostRounds) × (natAbs y ≤ mostMultiplier) × (natAbs previous ≤ mostMultiplier) ⌝ }
     ensures { λ r. ⌜ r ≡ ahead k y previous ⌝ }
 {
     limit(
         y + quotient((k - 1) * (y - previous), k + 2),
-        -16777216,
-        16777216,
+        LEAST_MULTIPLIER,
+        MOST_MULTIPLIER,
     )
 }
 
@@ -32,8 +35,12 @@ pub fn minimiser_of(p: i64, low: i64, high: i64, r: i64, s: i64) -> i64
 
 // The multiplier that follows y, from the residual e and the step size.
 pub fn ascended_of(gain: i64, y: i64, e: i64) -> i64
-    requires { ⌜ (natAbs gain ≤ 65535) × (natAbs y ≤ 16777216) × (natAbs e ≤ 3375497216) ⌝ }
+    requires { ⌜ (natAbs gain ≤ mostGain) × (natAbs y ≤ mostMultiplier) × (natAbs e ≤ 3375497216) ⌝ }
     ensures { λ r. ⌜ r ≡ ascended gain y e ⌝ }
 {
-    limit(y + quotient(e * gain + 32768, 65536), -16777216, 16777216)
+    limit(
+        y + quotient(e * gain + 32768, 65536),
+        LEAST_MULTIPLIER,
+        MOST_MULTIPLIER,
+    )
 }

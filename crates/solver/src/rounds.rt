@@ -6,16 +6,17 @@ ghost use lib.ListN.{replicate};
 ghost use lib.IntN.{pos, natAbs};
 ghost use lib.Signed.{ltZ};
 ghost use Rattle.integer.specs.Places.{Bounded};
+ghost use Rattle.tape.specs.Ranges.{mostNumber, mostMultiplier};
 ghost use Rattle.tape.specs.Legal.{Legal};
 ghost use Rattle.problem.specs.Model.{problemOf, residual};
 ghost use Rattle.problem.specs.Dual.{floor, ceiling};
 ghost use Rattle.evaluate.specs.Padded.{padded, paddedPlan};
 ghost use Rattle.evaluate.specs.Terms.{TermsOf};
-ghost use Rattle.judge.specs.Held.{BlankPlan, BlankMultipliers, HeldPlan, HeldMultipliers};
+ghost use Rattle.evaluate.specs.Held.{BlankPlan, BlankMultipliers, HeldPlan, HeldMultipliers};
 ghost use Rattle.solver.specs.declared.rounds.Verdict.the-variants as verdicts;
 ghost use Rattle.solver.specs.Rounds.{minimisers, candidate, verdict, ascended};
 ghost use Rattle.solver.specs.Solving.{rounds, start};
-ghost use Rattle.solver.specs.Held.{InputsWithin, HeldWhere, endingOf};
+ghost use Rattle.solver.specs.Held.{InputsWithin, HeldWhenProved, endingOf};
 use crate::arrays::minimisers;
 use crate::arrays::multipliers_ahead;
 use crate::arrays::multipliers_ascended;
@@ -48,7 +49,7 @@ impl RoundState {
 
     // Step 4: the next y from y~ and the residuals of the numbers v of step 2.
     fn next(self, t: Tape, ahead: [i64; 72], v: [i64; 120]) -> RoundState
-        requires { ⌜ Legal t × BlankMultipliers (t .n) ahead × Bounded 16777216 ahead × BlankPlan (t .n) (t .m) v × Bounded 20000 v ⌝ }
+        requires { ⌜ Legal t × BlankMultipliers (t .n) ahead × Bounded mostMultiplier ahead × BlankPlan (t .n) (t .m) v × Bounded mostNumber v ⌝ }
         ensures { λ r. ⌜ r .previous ≡ self .current ⌝ }
         ensures { λ r. ⌜ HeldMultipliers (t .n) (t .horizon) (λ k i. ascended (t .gain) (padded ahead k i) (residual (problemOf t) (paddedPlan v) k i)) (r .current) ⌝ }
     {
@@ -72,7 +73,7 @@ pub struct Dual {
 
 fn dual_at(t: Tape, terms: Terms, y: [i64; 72]) -> Dual
     requires { ⌜ Legal t × TermsOf t (terms .penalty) (terms .low) (terms .high) (terms .reference) ⌝ }
-    requires { ⌜ BlankMultipliers (t .n) y × Bounded 16777216 y ⌝ }
+    requires { ⌜ BlankMultipliers (t .n) y × Bounded mostMultiplier y ⌝ }
     ensures { λ r. ⌜ HeldPlan (t .n) (t .m) (t .horizon) (minimisers (problemOf t) (padded y)) (r .numbers) ⌝ }
     ensures { λ r. ⌜ (r .floor ≡ floor (problemOf t) (padded y)) × (natAbs (r .floor) ≤ 4541889529384009728) ⌝ }
 {
@@ -126,9 +127,9 @@ pub struct Weighed {
 // Step 3, from the ceiling, the floor and the numbers v of step 2.
 fn weigh(t: Tape, terms: Terms, highest: i64, floor: i64, v: [i64; 120]) -> Weighed
     requires { ⌜ Legal t × TermsOf t (terms .penalty) (terms .low) (terms .high) (terms .reference) ⌝ }
-    requires { ⌜ (highest ≡ ceiling (problemOf t)) × (natAbs floor ≤ 4541889529384009728) × InputsWithin (problemOf t) (paddedPlan v .u) × BlankPlan (t .n) (t .m) v × Bounded 20000 v ⌝ }
+    requires { ⌜ (highest ≡ ceiling (problemOf t)) × (natAbs floor ≤ 4541889529384009728) × InputsWithin (problemOf t) (paddedPlan v .u) × BlankPlan (t .n) (t .m) v × Bounded mostNumber v ⌝ }
     ensures { λ r. ⌜ r .verdict ≡ verdict t (candidate (problemOf t) (paddedPlan v .u)) floor ⌝ }
-    ensures { λ r. ⌜ HeldWhere (r .verdict) t (candidate (problemOf t) (paddedPlan v .u)) (r .plan) × Bounded 20000 (r .plan) ⌝ }
+    ensures { λ r. ⌜ HeldWhenProved (r .verdict) t (candidate (problemOf t) (paddedPlan v .u)) (r .plan) × Bounded mostNumber (r .plan) ⌝ }
 {
     let horizon = t.horizon;
     let candidate = candidate_of(t, terms, v);
@@ -177,7 +178,7 @@ pub struct Outcome {
 pub fn run_rounds(t: Tape, terms: Terms) -> Outcome
     requires { ⌜ Legal t × TermsOf t (terms .penalty) (terms .low) (terms .high) (terms .reference) ⌝ }
     ensures { λ r. ⌜ rounds t (t .rounds) 0 (start t) (start t) ≡ endingOf t (r .ended) (r .plan) (r .multipliers) ⌝ }
-    ensures { λ r. ⌜ Bounded 20000 (r .plan) × Bounded 16777216 (r .multipliers) ⌝ }
+    ensures { λ r. ⌜ Bounded mostNumber (r .plan) × Bounded mostMultiplier (r .multipliers) ⌝ }
 {
     let horizon = t.horizon;
     let limit = t.rounds;

@@ -4,12 +4,13 @@ ghost use mathlib.Core.Path.{_≡_};
 ghost use mathlib.Core.List.{_++_};
 ghost use lib.ListN.{length};
 ghost use Rattle.integer.specs.Places.{at, Bounded};
+ghost use Rattle.tape.specs.Ranges.{mostNumber, mostMultiplier};
 ghost use Rattle.evaluate.specs.Padded.{padded, paddedPlan};
 ghost use Rattle.solver.specs.Lent.{listed, lentMultipliers, lentPlan};
 
 // Fills a part with the numbers from a place on.
 fn write_numbers(part: &mut [i32], from: &[i64], first: usize)
-    requires { ⌜ (first + length (now part) ≤ length (now from)) × Bounded 16777216 (now from) ⌝ }
+    requires { ⌜ (first + length (now part) ≤ length (now from)) × Bounded mostMultiplier (now from) ⌝ }
     ensures { λ _. ⌜ now (part .exit) ≡ listed (length (now (part .entry))) (λ j. at (now (from .entry)) (first + j)) ⌝ }
 {
     let mut j: usize = 0;
@@ -21,7 +22,7 @@ fn write_numbers(part: &mut [i32], from: &[i64], first: usize)
 
 // Fills step k's stretch of a plan: its m inputs, then its n states.
 fn write_step(part: &mut [i32], v: &[i64; 120], n: usize, m: usize, k: usize)
-    requires { ⌜ (length (now part) ≡ n + m) × (n ≤ 6) × (m ≤ 4) × (k < 12) × Bounded 20000 (now v) ⌝ }
+    requires { ⌜ (length (now part) ≡ n + m) × (n ≤ 6) × (m ≤ 4) × (k < 12) × Bounded mostNumber (now v) ⌝ }
     ensures { λ _. ⌜ now (part .exit) ≡ listed m (paddedPlan (now (v .entry)) .u k) ++ listed n (paddedPlan (now (v .entry)) .x k) ⌝ }
 {
     let end = m + n;
@@ -31,7 +32,7 @@ fn write_step(part: &mut [i32], v: &[i64; 120], n: usize, m: usize, k: usize)
 
 // Writes each step into that step's own stretch of the plan.
 pub fn write_plan(plan: &mut [i32], v: &[i64; 120], n: usize, m: usize, horizon: usize)
-    requires { ⌜ (length (now plan) ≡ horizon * (n + m)) × (n ≤ 6) × (m ≤ 4) × (horizon ≤ 12) × Bounded 20000 (now v) ⌝ }
+    requires { ⌜ (length (now plan) ≡ horizon * (n + m)) × (n ≤ 6) × (m ≤ 4) × (horizon ≤ 12) × Bounded mostNumber (now v) ⌝ }
     ensures { λ _. ⌜ now (plan .exit) ≡ lentPlan n m horizon (paddedPlan (now (v .entry))) ⌝ }
 {
     let width = n + m;
@@ -46,7 +47,7 @@ pub fn write_plan(plan: &mut [i32], v: &[i64; 120], n: usize, m: usize, horizon:
 }
 
 pub fn write_multipliers(multipliers: &mut [i32], y: &[i64; 72], n: usize, horizon: usize)
-    requires { ⌜ (length (now multipliers) ≡ horizon * n) × (n ≤ 6) × (horizon ≤ 12) × Bounded 16777216 (now y) ⌝ }
+    requires { ⌜ (length (now multipliers) ≡ horizon * n) × (n ≤ 6) × (horizon ≤ 12) × Bounded mostMultiplier (now y) ⌝ }
     ensures { λ _. ⌜ now (multipliers .exit) ≡ lentMultipliers n horizon (padded (now (y .entry))) ⌝ }
 {
     let mut first: usize = 0;

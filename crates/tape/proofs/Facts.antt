@@ -32,10 +32,11 @@ use Rattle.tape.specs.declared.refusal.Refusal.{Refusal}
 use Rattle.tape.specs.declared.refusal.Refusal.the-variants.{Cut}
 use Rattle.tape.specs.Tape.{blank}
 use Rattle.tape.specs.Format.{whole, decoded, sizeCommand, stateCommand, inputCommand, driftCommand, columnCommand, startCommand, roundsCommand}
-use Rattle.tape.specs.Format.{wrongSize, beyond, outside, wrongColumn, wrong, placeOf, withSize, with}
+use Rattle.integer.specs.Tests.{outside}
+use Rattle.tape.specs.Format.{wrongSize, beyond, wrongColumn, wrong, placeOf, withSize, with}
 use Rattle.tape.specs.Legal.{Legal}
 use Rattle.tape.specs.Reading.{marked, sized, lacks, absent, next, refusedTape, outcome, readFrom, opened, reading}
-use Rattle.tape.proofs.Tests.{by-test, none, in-range, in-size}
+use Rattle.integer.proofs.Tests.{by-test, none, in-range, in-size}
 use Rattle.tape.proofs.Steps.{next-leads}
 
 -- ---- Command 50: no test limits `gain` from above, nor `wanted`; the widths of their operands do

@@ -19,7 +19,8 @@ use Rattle.tape.specs.declared.reader.Verdict.the-variants.{Going, Ended
 use Rattle.tape.specs.Format.{bytesOf, wrongSize, beyond, placeOf, with}
 use Rattle.tape.specs.Reading.{marked, next, outcome, readFrom, opened, reading}
 use Rattle.tape.specs.Refusals.{row, figure}
-use Rattle.tape.proofs.Tests.{none, Inside, inside}
+use Rattle.integer.proofs.Tests.{none}
+use Rattle.tape.proofs.Tests.{Inside, inside}
 use Rattle.tape.proofs.Steps.{Small, small-next, next-leads}
 
 -- ---- A command's place and its bytes

@@ -22,7 +22,7 @@ use Rattle.tape.specs.declared.refusal.Refusal.{Refusal}
 use Rattle.tape.specs.Refusals.{row, figure}
 use Rattle.tape.specs.Format.{decoded, bytesOf, wrongSize, beyond, wrong, placeOf, withSize, with}
 use Rattle.tape.specs.Reading.{refuse, refuseWhen, marked, sized, lacks, absent, obeySize, obeyEntry, obeyEnd, obey, next, outcome, readFrom}
-use Rattle.tape.proofs.Tests.{by-test, none}
+use Rattle.integer.proofs.Tests.{by-test, none}
 
 -- ---- Places without a mark
 

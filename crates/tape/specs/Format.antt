@@ -4,14 +4,16 @@ use mathlib.Core.Bool.{Bool, false, cond, _||_}
 use mathlib.Core.List.{List}
 use lib.Dec.{eqb, ltb, leb}
 use lib.ListN.{length, set, getD}
-use lib.IntN.{ℤ, pos, negsuc}
+use lib.IntN.{ℤ, pos}
 use lib.Signed.{ltZ}
 use Rattle.integer.specs.Operand.{unsigned, signed, operand}
+use Rattle.integer.specs.Tests.{outside}
 use Rattle.tape.specs.declared.Tape.{Tape}
 use Rattle.tape.specs.declared.command.Command.{Command}
 use Rattle.tape.specs.declared.command.Command.the-variants.{Unknown, Cut, Size, Give, End}
 use Rattle.tape.specs.declared.command.Entry.{Entry}
 use Rattle.tape.specs.declared.command.Entry.the-variants.{State, Input, Drift, Column, Start, Rounds}
+use Rattle.tape.specs.Ranges.{mostEntry, mostDrift, mostNumber, mostWeight, mostRounds, exceeding}
 use Rattle.tape.specs.Tape.{tapeOf}
 
 -- ---- Byte and operands. A command that has not all of its operands is cut
@@ -93,24 +95,20 @@ beyond n m (Column c lo hi r h) = leb (n + m) c
 beyond n m (Start i v) = leb n i
 beyond n m (Rounds g rounds t) = false
 
--- v is not in lo to hi
-unfoldable pub outside : ℤ → ℤ → ℤ → Bool
-outside lo hi v = ltZ v lo || ltZ hi v
-
 -- lo, hi, r -20,000 to 20,000, lo ≤ hi, h 1 to 255
 unfoldable pub wrongColumn : ℤ → ℤ → ℤ → ℤ → Bool
 wrongColumn lo hi r h =
-    outside (negsuc 19999) (pos 20000) lo || outside (negsuc 19999) (pos 20000) hi || outside (negsuc 19999) (pos 20000) r
-    || ltZ hi lo || outside (pos 1) (pos 255) h
+    exceeding mostNumber lo || exceeding mostNumber hi || exceeding mostNumber r
+    || ltZ hi lo || outside (pos 1) (pos mostWeight) h
 
 -- an operand outside its range, or lo > hi
 unfoldable pub wrong : Entry → Bool
-wrong (State i j v) = outside (negsuc 16383) (pos 16384) v
-wrong (Input i j v) = outside (negsuc 16383) (pos 16384) v
-wrong (Drift i v) = outside (negsuc 16777215) (pos 16777216) v
+wrong (State i j v) = exceeding mostEntry v
+wrong (Input i j v) = exceeding mostEntry v
+wrong (Drift i v) = exceeding mostDrift v
 wrong (Column c lo hi r h) = wrongColumn lo hi r h
-wrong (Start i v) = outside (negsuc 19999) (pos 20000) v
-wrong (Rounds g rounds t) = ltZ g (pos 1) || ltb rounds 1 || ltb 10000 rounds
+wrong (Start i v) = exceeding mostNumber v
+wrong (Rounds g rounds t) = ltZ g (pos 1) || ltb rounds 1 || ltb mostRounds rounds
 
 -- ---- What is given, and what is stored
 

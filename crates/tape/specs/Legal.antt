@@ -6,24 +6,25 @@ use lib.IntN.{pos}
 use Rattle.integer.specs.Order.{_≼_}
 use Rattle.integer.specs.Places.{at, Bounded}
 use Rattle.tape.specs.declared.Tape.{Tape}
+use Rattle.tape.specs.Ranges.{mostEntry, mostDrift, mostNumber, mostWeight, mostGain, mostRounds, mostWanted}
 
 pub record Legal (t : Tape) : Type 0 where
   pub states : (1 ≤ t .n) × (t .n ≤ 6)
   pub inputs : (1 ≤ t .m) × (t .m ≤ 4)
   pub steps : (1 ≤ t .horizon) × (t .horizon ≤ 12)
-  pub a : Bounded 16384 (t .a)
-  pub b : Bounded 16384 (t .b)
-  pub drift : Bounded 16777216 (t .drift)
-  pub low : Bounded 20000 (t .low)
-  pub high : Bounded 20000 (t .high)
-  pub reference : Bounded 20000 (t .reference)
-  pub weight : Bounded 255 (t .weight)
-  pub start : Bounded 20000 (t .start)
+  pub a : Bounded mostEntry (t .a)
+  pub b : Bounded mostEntry (t .b)
+  pub drift : Bounded mostDrift (t .drift)
+  pub low : Bounded mostNumber (t .low)
+  pub high : Bounded mostNumber (t .high)
+  pub reference : Bounded mostNumber (t .reference)
+  pub weight : Bounded mostWeight (t .weight)
+  pub start : Bounded mostNumber (t .start)
   pub ordered : (column : ℕ) → at (t .low) column ≼ at (t .high) column
   pub weighed : (column : ℕ) → column < t .n + t .m → pos 1 ≼ at (t .weight) column
-  pub gain : (pos 1 ≼ t .gain) × (t .gain ≼ pos 65535)
-  pub rounds : (1 ≤ t .rounds) × (t .rounds ≤ 10000)
-  pub wanted : (pos 0 ≼ t .wanted) × (t .wanted ≼ pos 4294967295)
+  pub gain : (pos 1 ≼ t .gain) × (t .gain ≼ pos mostGain)
+  pub rounds : (1 ≤ t .rounds) × (t .rounds ≤ mostRounds)
+  pub wanted : (pos 0 ≼ t .wanted) × (t .wanted ≼ pos mostWanted)
   pub blankA : (i j : ℕ) → j < 6 → (t .n ≤ i) ⊎ (t .n ≤ j) → at (t .a) (6 * i + j) ≡ pos 0
   pub blankB : (i j : ℕ) → j < 4 → (t .n ≤ i) ⊎ (t .m ≤ j) → at (t .b) (4 * i + j) ≡ pos 0
   pub blankDrift : (i : ℕ) → t .n ≤ i → at (t .drift) i ≡ pos 0

@@ -3,13 +3,22 @@ ghost use Prim.Native.Nat.{_+_, _<_, _≤_};
 ghost use mathlib.Core.Path.{_≡_};
 ghost use mathlib.Core.Bool.{false};
 ghost use lib.ListN.{length};
-ghost use Rattle.tape.specs.Format.{sizeCommand, stateCommand, inputCommand, driftCommand, columnCommand, startCommand, roundsCommand, decoded, outside, wrongSize, wrongColumn, beyond, wrong, placeOf, bytesOf};
+ghost use Rattle.tape.specs.Format.{sizeCommand, stateCommand, inputCommand, driftCommand, columnCommand, startCommand, roundsCommand, decoded, wrongSize, wrongColumn, beyond, wrong, placeOf, bytesOf};
 ghost use Rattle.tape.specs.Room.{Room};
+use crate::range::LEAST_DRIFT;
+use crate::range::LEAST_ENTRY;
+use crate::range::LEAST_NUMBER;
+use crate::range::MOST_DRIFT;
+use crate::range::MOST_ENTRY;
+use crate::range::MOST_NUMBER;
+use crate::range::MOST_ROUNDS;
+use crate::range::MOST_WEIGHT;
 use integer::bytes::i16_at;
 use integer::bytes::i32_at;
 use integer::bytes::u8_at;
 use integer::bytes::u16_at;
 use integer::bytes::u32_at;
+use integer::number::is_outside;
 
 // What a command gives: the number or numbers of one place.
 pub enum Entry {
@@ -127,16 +136,6 @@ fn rounds(s: &[u8], at: usize) -> Command
     Command::Give(Entry::Rounds(gain, u16_at(s, at + 3), wanted))
 }
 
-// Whether v lies outside lo to hi.
-pub fn is_outside(v: i64, lo: i64, hi: i64) -> bool
-    ensures { λ r. ⌜ r ≡ outside lo hi v ⌝ }
-{
-    if v < lo {
-        return true;
-    }
-    hi < v
-}
-
 // Test 5 of command 10.
 pub fn is_wrong_size(n: usize, m: usize, horizon: usize) -> bool
     ensures { λ r. ⌜ r ≡ wrongSize n m horizon ⌝ }
@@ -147,11 +146,11 @@ pub fn is_wrong_size(n: usize, m: usize, horizon: usize) -> bool
 fn is_wrong_column(low: i64, high: i64, reference: i64, weight: i64) -> bool
     ensures { λ r. ⌜ r ≡ wrongColumn low high reference weight ⌝ }
 {
-    is_outside(low, -20000, 20000)
-        || is_outside(high, -20000, 20000)
-        || is_outside(reference, -20000, 20000)
+    is_outside(low, LEAST_NUMBER, MOST_NUMBER)
+        || is_outside(high, LEAST_NUMBER, MOST_NUMBER)
+        || is_outside(reference, LEAST_NUMBER, MOST_NUMBER)
         || high < low
-        || is_outside(weight, 1, 255)
+        || is_outside(weight, 1, MOST_WEIGHT)
 }
 
 // Test 4: an index outside the size.
@@ -174,17 +173,17 @@ pub fn is_wrong(entry: Entry) -> bool
     ensures { λ r. ⌜ r ≡ wrong entry ⌝ }
 {
     match entry {
-        Entry::State(_, _, v) => is_outside(v, -16384, 16384),
-        Entry::Input(_, _, v) => is_outside(v, -16384, 16384),
-        Entry::Drift(_, v) => is_outside(v, -16777216, 16777216),
+        Entry::State(_, _, v) => is_outside(v, LEAST_ENTRY, MOST_ENTRY),
+        Entry::Input(_, _, v) => is_outside(v, LEAST_ENTRY, MOST_ENTRY),
+        Entry::Drift(_, v) => is_outside(v, LEAST_DRIFT, MOST_DRIFT),
         Entry::Column(_, low, high, reference, weight) => is_wrong_column(
             low,
             high,
             reference,
             weight,
         ),
-        Entry::Start(_, v) => is_outside(v, -20000, 20000),
-        Entry::Rounds(gain, rounds, _) => gain < 1 || rounds < 1 || 10000 < rounds,
+        Entry::Start(_, v) => is_outside(v, LEAST_NUMBER, MOST_NUMBER),
+        Entry::Rounds(gain, rounds, _) => gain < 1 || rounds < 1 || MOST_ROUNDS < rounds,
     }
 }
 

@@ -1,9 +1,9 @@
 // The tape: its numbers, its refusals, and `read`.
 mod command;
+pub mod range;
 mod reader;
 pub mod refusal;
 
-pub use command::is_outside;
 pub use reader::read;
 ghost use mathlib.Core.Path.{_≡_};
 ghost use Rattle.tape.specs.Tape.{blank};

@@ -3,19 +3,19 @@ use mathlib.Core.Path.{_≡_, refl, sym, ap, _∙_}
 use mathlib.Core.Bool.{Bool, false}
 use native.Mathlib.Omega.{arith}
 use lib.ListN.{length}
-use lib.IntN.{ℤ, pos, negsuc}
+use lib.IntN.{ℤ, pos, negℤ}
 use denote.Ref.{now}
 use borrow.Author.Needs.{needs}
 use Rattle.integer.specs.Places.{at}
-use Rattle.tape.specs.Format.{outside}
-use Rattle.judge.specs.Checks.{any}
+use Rattle.integer.specs.Tests.{outside, any}
 use Rattle.integer.proofs.Sizes.{widened}
-use Rattle.judge.proofs.Multipliers.{any-at, any-more}
+use Rattle.integer.proofs.Tests.{any-at, any-more}
+use Rattle.tape.specs.Ranges.{mostMultiplier}
 use Rattle.judge.proofs.lent.is_any_outside.Statement.{statement}
 use Rattle.judge.proofs.lent.is_any_outside.Tie as tie
 
 abbrev wrong : ℤ → Bool
-wrong = outside (negsuc 16777215) (pos 16777216)
+wrong = outside (negℤ (pos mostMultiplier)) (pos mostMultiplier)
 
 abbrev Inv-loop : tie.InvT-loop
 Inv-loop multipliers p₀ p = (p ≤ length multipliers) × (any p (λ q. wrong (at multipliers q)) ≡ false)

@@ -9,7 +9,7 @@ use borrow.Author.Needs.{needs}
 use Rattle.integer.specs.Places.{at, Stretch}
 use Rattle.integer.proofs.Sizes.{called, Formed, widened}
 use Rattle.integer.proofs.Places.{stretch-none, stretch-store}
-use Rattle.tape.specs.Format.{outside}
+use Rattle.integer.specs.Tests.{outside}
 use Rattle.judge.specs.declared.walk.Check.the-variants.{Passed}
 use Rattle.judge.specs.Checks.{first, limits}
 use Rattle.judge.proofs.Steps.{first-none, first-passed, first-refused, inputCheckAt}

@@ -2,7 +2,7 @@ use mathlib.Core.Path.{_≡_, sym, _∙_}
 use mir.Facts.{toZ-ofZ}
 use borrow.Author.Needs.{needs}
 use Rattle.integer.proofs.Sizes.{called}
-use Rattle.tape.specs.Format.{outside}
+use Rattle.integer.specs.Tests.{outside}
 use Rattle.problem.specs.Model.{rounded}
 use Rattle.judge.specs.Checks.{stateCheck, meets, limits}
 use Rattle.judge.proofs.walk.check_state.Statement.{statement}

@@ -9,6 +9,7 @@ use borrow.Author.Needs.{needs}
 use Rattle.integer.specs.Places.{at, Bounded, Stretch}
 use Rattle.integer.proofs.Sizes.{called, back, Formed, widened}
 use Rattle.integer.proofs.Places.{stretch-none, stretch-store}
+use Rattle.tape.specs.Ranges.{mostNumber}
 use Rattle.evaluate.proofs.LinearSizes.{modelAt, size-model}
 use Rattle.judge.specs.declared.walk.Check.the-variants.{Passed}
 use Rattle.judge.specs.Checks.{first, stateCheck}
@@ -27,7 +28,7 @@ loop-holds : tie.Need-loop-holds Inv-loop μ-loop
 loop-holds c = (omega arith, first-none _, stretch-none _ _ _)
 
 -- what has been stored has passed its limits
-bounded : (c : tie.In-loop Inv-loop μ-loop) → Bounded 20000 (c .before .loop .v)
+bounded : (c : tie.In-loop Inv-loop μ-loop) → Bounded mostNumber (c .before .loop .v)
 bounded c =
     let p = c .before .before .pre in
     let a = c .before .before .args in

@@ -6,10 +6,11 @@ use lib.ListN.{length}
 use borrow.Author.Needs.{needs}
 use Rattle.integer.specs.Places.{Bounded}
 use Rattle.integer.proofs.Places.{all-bounded}
+use Rattle.tape.specs.Ranges.{mostNumber}
 use Rattle.problem.specs.Model.{problemOf}
 use Rattle.evaluate.specs.Padded.{paddedPlan}
-use Rattle.judge.specs.Checks.{any}
-use Rattle.judge.proofs.Multipliers.{any-at, any-more}
+use Rattle.integer.specs.Tests.{any}
+use Rattle.integer.proofs.Tests.{any-at, any-more}
 use Rattle.judge.proofs.Steps.{held-start}
 use Rattle.solver.specs.Rounds.{candidate, dropped}
 use Rattle.solver.proofs.CandidateSteps.{stepDropped, Begun, step-tested, step-begun}
@@ -27,7 +28,7 @@ abbrev μ-loop : tie.MeasureT-loop
 long : (c : tie.Start Inv-loop μ-loop) → (length (c .args .v) ≡ 120) × (length (c .args .t2 .low) ≡ 120) × (length (c .args .t2 .high) ≡ 120)
 long c = search needs
 
-limits-bounded : (c : tie.Start Inv-loop μ-loop) → Bounded 20000 (c .args .t2 .low) × Bounded 20000 (c .args .t2 .high)
+limits-bounded : (c : tie.Start Inv-loop μ-loop) → Bounded mostNumber (c .args .t2 .low) × Bounded mostNumber (c .args .t2 .high)
 limits-bounded c =
     let tables = c .pre .0 .1 .tables in (
       all-bounded (c .args .t2 .low) 120 (long c .1) (λ p h. tables .each p h .low),

@@ -8,10 +8,11 @@ use borrow.Author.Needs.{needs}
 use Rattle.integer.specs.Places.{at, Bounded, Stretch}
 use Rattle.integer.proofs.Sizes.{called, back}
 use Rattle.integer.proofs.Places.{stretch-none, stretch-store}
+use Rattle.tape.specs.Ranges.{mostNumber}
 use Rattle.problem.specs.Model.{rounded}
 use Rattle.evaluate.proofs.LinearSizes.{modelAt, size-model}
-use Rattle.judge.specs.Checks.{any}
-use Rattle.judge.proofs.Multipliers.{any-at, any-more}
+use Rattle.integer.specs.Tests.{any}
+use Rattle.integer.proofs.Tests.{any-at, any-more}
 use Rattle.judge.proofs.Steps.{model-kept}
 use Rattle.solver.proofs.CandidateSteps.{nextState, isOver, step-bounded}
 use Rattle.solver.proofs.candidate.is_step_dropped.Statement.{statement}
@@ -28,7 +29,7 @@ loop-holds : tie.Need-loop-holds Inv-loop μ-loop
 unfolding any
 loop-holds c = (omega arith, refl, stretch-none _ _ _)
 
-bounded : (c : tie.In-loop Inv-loop μ-loop) → Bounded 20000 (c .before .loop .v)
+bounded : (c : tie.In-loop Inv-loop μ-loop) → Bounded mostNumber (c .before .loop .v)
 bounded c =
     let p = c .before .before .pre in
     let a = c .before .before .args in

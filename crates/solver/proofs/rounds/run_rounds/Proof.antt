@@ -11,7 +11,7 @@ use Rattle.problem.specs.Model.{problemOf}
 use Rattle.problem.specs.Dual.{floor, ceiling}
 use Rattle.evaluate.specs.Padded.{padded, paddedPlan}
 use Rattle.evaluate.proofs.Padding.{ceiling-padded}
-use Rattle.judge.specs.Held.{HeldMultipliers}
+use Rattle.evaluate.specs.Held.{HeldMultipliers}
 use Rattle.solver.specs.Rounds.{ahead, candidate, verdict}
 use Rattle.solver.proofs.Entered.{Running, running-start, proved-is, impossible-is, running-next, open-is}
 use Rattle.solver.proofs.Filled.{zeros-bounded, held-ahead, inputs-within}

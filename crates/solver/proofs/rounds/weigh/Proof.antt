@@ -13,8 +13,8 @@ use Rattle.problem.specs.Dual.{ceiling}
 use Rattle.evaluate.specs.Padded.{paddedPlan, paddedProblem}
 use Rattle.evaluate.proofs.FloorSizes.{size-plan-cost}
 use Rattle.evaluate.proofs.Padding.{cost-padded}
-use Rattle.judge.specs.Held.{HeldPlan}
-use Rattle.judge.proofs.Held.{cost-held}
+use Rattle.evaluate.specs.Held.{HeldPlan}
+use Rattle.evaluate.proofs.Held.{cost-held}
 use Rattle.solver.specs.Rounds.{candidate, dropped}
 use Rattle.solver.specs.Held.{HeldUnless}
 use Rattle.solver.proofs.Verdicts.{accepted, onFloor, when-dropped, when-wide, nothing-held}

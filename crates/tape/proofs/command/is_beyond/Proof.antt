@@ -2,7 +2,7 @@ use mathlib.Core.Path.{refl}
 use borrow.Author.Tests.{le-leb, lt-leb}
 use borrow.Author.Needs.{needs}
 use Rattle.tape.specs.Format.{beyond}
-use Rattle.tape.proofs.Tests.{or-yes, or-no}
+use Rattle.integer.proofs.Tests.{or-yes, or-no}
 use Rattle.tape.proofs.command.is_beyond.Statement.{statement}
 use Rattle.tape.proofs.command.is_beyond.Tie as tie
 

@@ -6,7 +6,7 @@ use lib.Signed.{ltZ}
 use borrow.Author.Needs.{needs}
 use Rattle.integer.proofs.Sizes.{called}
 use Rattle.tape.specs.Format.{wrong}
-use Rattle.tape.proofs.Tests.{or-yes, or-no, or-met}
+use Rattle.integer.proofs.Tests.{or-yes, or-no, or-met}
 use Rattle.tape.proofs.command.is_wrong.Statement.{statement}
 use Rattle.tape.proofs.command.is_wrong.Tie as tie
 

@@ -4,8 +4,9 @@ use lib.IntN.{pos, negsuc}
 use lib.Signed.{ltZ}
 use mir.Facts.{toZ-ofZ}
 use borrow.Author.Needs.{needs}
-use Rattle.tape.specs.Format.{outside, wrongColumn}
-use Rattle.tape.proofs.Tests.{or-yes, or-no, or-met}
+use Rattle.integer.specs.Tests.{outside}
+use Rattle.tape.specs.Format.{wrongColumn}
+use Rattle.integer.proofs.Tests.{or-yes, or-no, or-met}
 use Rattle.tape.proofs.command.is_wrong_column.Statement.{statement}
 use Rattle.tape.proofs.command.is_wrong_column.Tie as tie
 

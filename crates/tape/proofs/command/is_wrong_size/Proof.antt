@@ -3,7 +3,7 @@ use mathlib.Core.Bool.{_||_}
 use lib.Dec.{ltb}
 use borrow.Author.Tests.{lt-ltb, le-ltb}
 use Rattle.tape.specs.Format.{wrongSize}
-use Rattle.tape.proofs.Tests.{or-yes, or-no, or-met}
+use Rattle.integer.proofs.Tests.{or-yes, or-no, or-met}
 use Rattle.tape.proofs.command.is_wrong_size.Statement.{statement}
 use Rattle.tape.proofs.command.is_wrong_size.Tie as tie
 

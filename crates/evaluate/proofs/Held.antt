@@ -13,8 +13,8 @@ use Rattle.problem.specs.Model.{Plan, problemOf}
 use Rattle.problem.specs.Cost.{planCost}
 use Rattle.problem.specs.Dual.{floor}
 use Rattle.problem.proofs.Congruence.{floor-cong, cost-cong}
 use Rattle.evaluate.specs.Padded.{padded, paddedPlan}
-use Rattle.judge.specs.Held.{HeldMultipliers, HeldPlan}
+use Rattle.evaluate.specs.Held.{HeldMultipliers, HeldPlan}
 
 pub count-fits : (N w : ℕ) → N ≤ 12 → w ≤ 10 → Fits w64 (N * w)
 count-fits N w h k = omega (arith, mul-le-mul h k)

@@ -1,9 +1,9 @@
 use mathlib.Core.Path.{refl}
 use mir.Facts.{toZ-ofZ}
-use Rattle.tape.specs.Format.{outside}
-use Rattle.tape.proofs.Tests.{or-no}
-use Rattle.tape.proofs.command.is_outside.Statement.{statement}
-use Rattle.tape.proofs.command.is_outside.Tie as tie
+use Rattle.integer.specs.Tests.{outside}
+use Rattle.integer.proofs.Tests.{or-no}
+use Rattle.integer.proofs.number.is_outside.Statement.{statement}
+use Rattle.integer.proofs.number.is_outside.Tie as tie
 
 returns : tie.Need-returns
 unfolding outside

@@ -10,7 +10,7 @@ use Rattle.integer.specs.Sum.{sum}
 use Rattle.integer.proofs.Ring.{ring, _⊕_, _⊖_, _≐_}
 use Rattle.integer.proofs.Sizes.{size-add, Formed, formed}
 use Rattle.integer.proofs.Sum.{size-sum}
-use Rattle.tape.specs.Ranges.{mostEntry, mostDrift, mostNumber, mostMultiplier}
+use Rattle.commands.specs.Ranges.{mostEntry, mostDrift, mostNumber, mostMultiplier}
 use Rattle.problem.specs.Cost.{total, cost, planCost}
 use Rattle.problem.specs.Model.{Problem}
 use Rattle.problem.specs.Dual.{inputSlope, stateSlope, piece, pieces, constant, sizes, floor}

@@ -12,7 +12,7 @@ use Rattle.integer.specs.Sum.{sum}
 use Rattle.integer.proofs.Sizes.{size-add, size-sub, size-mul}
 use Rattle.integer.proofs.Sum.{sum-cong, size-sum}
 use Rattle.integer.proofs.Places.{steps-bounded}
-use Rattle.tape.specs.Ranges.{mostEntry, mostDrift, mostNumber, mostMultiplier}
+use Rattle.commands.specs.Ranges.{mostEntry, mostDrift, mostNumber, mostMultiplier}
 use Rattle.problem.specs.Model.{stateAt, modelSum}
 use Rattle.problem.specs.Dual.{inputSlope, carried, stateSlope, constant, sizes}
 use Rattle.evaluate.specs.Padded.{stateMatrix, inputMatrix, padded, paddedPlan, byPlace, paddedProblem}

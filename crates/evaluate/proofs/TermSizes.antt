@@ -16,7 +16,7 @@ use Rattle.integer.proofs.Order.{order, square-nonneg}
 use Rattle.integer.proofs.Sizes.{size-parts, size-add, size-sub, size-mul, back, back-is, Formed, formed}
 use Rattle.integer.proofs.Sum.{size-sum}
 use Rattle.integer.proofs.Quotient.{quotient-most, quotient-least}
-use Rattle.tape.specs.Ranges.{mostNumber}
+use Rattle.commands.specs.Ranges.{mostNumber}
 use Rattle.problem.specs.Model.{Term}
 use Rattle.problem.specs.Cost.{cost}
 use Rattle.problem.specs.Dual.{conjugate, tilt, piece, larger, most}

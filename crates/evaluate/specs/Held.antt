@@ -5,7 +5,7 @@ use mathlib.Core.List.{List}
 use lib.ListN.{length}
 use lib.IntN.{ℤ, pos}
 use Rattle.integer.specs.Places.{Bounded}
-use Rattle.tape.specs.Ranges.{mostNumber, mostMultiplier}
+use Rattle.commands.specs.Ranges.{mostNumber, mostMultiplier}
 use Rattle.problem.specs.Model.{Plan}
 use Rattle.evaluate.specs.Padded.{padded, paddedPlan}
 

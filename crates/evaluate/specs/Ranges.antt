@@ -4,7 +4,7 @@ use mathlib.Core.List.{List}
 use lib.ListN.{length}
 use lib.IntN.{ℤ, pos, natAbs}
 use Rattle.integer.specs.Order.{_≼_}
-use Rattle.tape.specs.Ranges.{mostNumber}
+use Rattle.commands.specs.Ranges.{mostNumber}
 use Rattle.problem.specs.Model.{Term}
 use Rattle.evaluate.specs.Padded.{termAt}
 

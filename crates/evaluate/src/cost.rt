@@ -4,7 +4,7 @@ ghost use mathlib.Core.Path.{_≡_};
 ghost use mathlib.Core.List.{[]};
 ghost use lib.IntN.{natAbs, _-ℤ_, _*ℤ_};
 ghost use Rattle.integer.specs.Places.{Bounded};
-ghost use Rattle.tape.specs.Ranges.{mostNumber};
+ghost use Rattle.commands.specs.Ranges.{mostNumber};
 ghost use Rattle.problem.specs.Cost.{planCost};
 ghost use Rattle.problem.specs.Dual.{most, ceiling};
 ghost use Rattle.evaluate.specs.Padded.{paddedPlan, termOf, paddedProblem};

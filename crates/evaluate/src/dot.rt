@@ -5,7 +5,7 @@ ghost use lib.ListN.{length};
 ghost use lib.IntN.{_*ℤ_};
 ghost use Rattle.integer.specs.Places.{at, Bounded};
 ghost use Rattle.integer.specs.Sum.{sum};
-ghost use Rattle.tape.specs.Ranges.{mostMultiplier};
+ghost use Rattle.commands.specs.Ranges.{mostMultiplier};
 ghost use Rattle.evaluate.specs.Ranges.{Reaches};
 
 // The sum of products of count numbers: of x from i on, and of y every stride-th from j on. The

@@ -6,7 +6,7 @@ ghost use lib.ListN.{length};
 ghost use lib.IntN.{pos, natAbs, _+ℤ_, _-ℤ_, _*ℤ_};
 ghost use Rattle.integer.specs.Places.{at, Bounded, Stretch, Steps};
 ghost use Rattle.integer.specs.Sum.{sum};
-ghost use Rattle.tape.specs.Ranges.{mostEntry, mostDrift, mostNumber, mostMultiplier};
+ghost use Rattle.commands.specs.Ranges.{mostEntry, mostDrift, mostNumber, mostMultiplier};
 ghost use Rattle.problem.specs.Dual.{inputSlope, carried, stateSlope, piece, constant, sizes, floor};
 ghost use Rattle.evaluate.specs.Padded.{stateMatrix, inputMatrix, padded, byPlace, termAt, termOf, paddedProblem};
 ghost use Rattle.evaluate.specs.Ranges.{Ranged, Tables};

@@ -5,7 +5,7 @@ ghost use lib.ListN.{length};
 ghost use lib.IntN.{pos, natAbs, _-ℤ_, _*ℤ_};
 ghost use Rattle.integer.specs.Places.{at, Bounded, Stretch, Steps};
 ghost use Rattle.integer.specs.Sum.{sum};
-ghost use Rattle.tape.specs.Ranges.{mostEntry, mostDrift, mostNumber};
+ghost use Rattle.commands.specs.Ranges.{mostEntry, mostDrift, mostNumber};
 ghost use Rattle.problem.specs.Model.{stateAt, modelSum, rounded};
 ghost use Rattle.evaluate.specs.Padded.{stateMatrix, inputMatrix, paddedPlan};
 use crate::dot::dot;

@@ -4,7 +4,7 @@ ghost use mathlib.Core.Path.{_≡_};
 ghost use lib.ListN.{replicate};
 ghost use lib.IntN.{pos, _*ℤ_};
 ghost use Rattle.integer.specs.Places.{at, Bounded, Stretch};
-ghost use Rattle.tape.specs.Ranges.{mostWeight};
+ghost use Rattle.commands.specs.Ranges.{mostWeight};
 ghost use Rattle.tape.specs.Legal.{Legal};
 ghost use Rattle.evaluate.specs.Terms.{placed, TermsOf};
 use tape::Tape;

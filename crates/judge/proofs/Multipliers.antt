@@ -15,7 +15,7 @@ use Rattle.integer.proofs.Sizes.{size-low, size-high}
 use Rattle.integer.proofs.Places.{lt-or-le, all-bounded, steps-bounded}
 use Rattle.integer.specs.Tests.{outside, any}
 use Rattle.integer.proofs.Tests.{in-size, not-outside, by-test, any-none, any-all}
-use Rattle.tape.specs.Ranges.{mostMultiplier}
+use Rattle.commands.specs.Ranges.{mostMultiplier}
 use Rattle.problem.specs.Model.{multipliersOf}
 use Rattle.judge.specs.Checks.{wrongMultipliers}
 use Rattle.evaluate.specs.Held.{HeldMultipliers}

@@ -13,7 +13,7 @@ use Rattle.integer.specs.Places.{at, Bounded, Stretch}
 use Rattle.integer.proofs.Order.{order}
 use Rattle.integer.proofs.Sizes.{size-parts}
 use Rattle.integer.proofs.Places.{lt-or-le, zeros}
-use Rattle.tape.specs.Ranges.{mostNumber}
+use Rattle.commands.specs.Ranges.{mostNumber}
 use Rattle.tape.specs.declared.Tape.{Tape}
 use Rattle.tape.specs.declared.refusal.Refusal.{Refusal}
 use Rattle.integer.specs.Tests.{outside}

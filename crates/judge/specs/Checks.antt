@@ -6,7 +6,7 @@ use lib.ListN.{length}
 use lib.IntN.{ℤ, pos, negℤ}
 use Rattle.integer.specs.Places.{at}
 use Rattle.integer.specs.Tests.{outside, any}
-use Rattle.tape.specs.Ranges.{mostMultiplier}
+use Rattle.commands.specs.Ranges.{mostMultiplier}
 use Rattle.tape.specs.declared.refusal.Refusal.the-variants.{OffModel, OverLimit}
 use Rattle.problem.specs.Model.{Problem, Plan, sumAt, rounded}
 use Rattle.judge.specs.declared.walk.Check.{Check}

@@ -7,9 +7,9 @@ ghost use Rattle.integer.specs.Places.{at, Stretch};
 ghost use Rattle.problem.specs.Model.{multipliersOf};
 ghost use Rattle.judge.specs.Checks.{wrongMultipliers};
 ghost use Rattle.evaluate.specs.Held.{HeldMultipliers};
+use commands::range::LEAST_MULTIPLIER;
+use commands::range::MOST_MULTIPLIER;
 use integer::number::is_outside;
-use tape::range::LEAST_MULTIPLIER;
-use tape::range::MOST_MULTIPLIER;
 
 // Test 12: whether a multiplier is outside its range.
 pub fn is_any_outside(multipliers: &[i32]) -> bool

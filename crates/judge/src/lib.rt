@@ -5,7 +5,7 @@ mod walk;
 ghost use mathlib.Core.Path.{_≡_};
 ghost use lib.IntN.{_-ℤ_};
 ghost use Rattle.integer.specs.Places.{Bounded};
-ghost use Rattle.tape.specs.Ranges.{mostNumber, mostMultiplier};
+ghost use Rattle.commands.specs.Ranges.{mostNumber, mostMultiplier};
 ghost use Rattle.tape.specs.Legal.{Legal};
 ghost use Rattle.tape.specs.Reading.{reading};
 ghost use Rattle.problem.specs.Model.{problemOf};

@@ -4,7 +4,7 @@ ghost use mathlib.Core.Path.{_≡_};
 ghost use lib.ListN.{length};
 ghost use lib.IntN.{natAbs};
 ghost use Rattle.integer.specs.Places.{at, Bounded};
-ghost use Rattle.tape.specs.Ranges.{mostEntry, mostDrift, mostNumber};
+ghost use Rattle.commands.specs.Ranges.{mostEntry, mostDrift, mostNumber};
 ghost use Rattle.tape.specs.Legal.{Legal};
 ghost use Rattle.problem.specs.Model.{problemOf, planOf, stateAt, modelSum};
 ghost use Rattle.evaluate.specs.Padded.{stateMatrix, inputMatrix, paddedPlan};

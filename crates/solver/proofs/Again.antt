@@ -12,7 +12,7 @@ use Rattle.integer.specs.Places.{Bounded}
 use Rattle.integer.proofs.Order.{order}
 use Rattle.integer.proofs.Limited.{size-limited}
 use Rattle.integer.proofs.Operand.{Bytes}
-use Rattle.tape.specs.Ranges.{mostMultiplier}
+use Rattle.commands.specs.Ranges.{mostMultiplier}
 use Rattle.tape.specs.declared.Answer.{Answer}
 use Rattle.tape.specs.declared.Answer.the-variants as answer
 use Rattle.tape.specs.declared.Tape.{Tape}

@@ -9,7 +9,7 @@ use Rattle.integer.specs.Order.{_≼_}
 use Rattle.integer.specs.Quotient.{_÷_}
 use Rattle.integer.proofs.Order.{order}
 use Rattle.integer.proofs.Limited.{limited-low, limited-high, size-limited}
-use Rattle.tape.specs.Ranges.{mostNumber, mostMultiplier}
+use Rattle.commands.specs.Ranges.{mostNumber, mostMultiplier}
 use Rattle.problem.specs.Model.{Term}
 use Rattle.problem.specs.Cost.{Within}
 use Rattle.evaluate.specs.Terms.{blankTerm}

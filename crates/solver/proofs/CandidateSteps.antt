@@ -6,7 +6,7 @@ use mathlib.Core.List.{List}
 use native.Mathlib.Omega.{arith}
 use lib.IntN.{ℤ}
 use Rattle.integer.specs.Places.{at, Bounded, Stretch}
-use Rattle.tape.specs.Ranges.{mostNumber}
+use Rattle.commands.specs.Ranges.{mostNumber}
 use Rattle.tape.specs.declared.Tape.{Tape}
 use Rattle.integer.specs.Tests.{outside, any}
 use Rattle.tape.specs.Legal.{Legal}

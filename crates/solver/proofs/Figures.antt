@@ -9,7 +9,7 @@ use Rattle.integer.specs.Quotient.{_÷_}
 use Rattle.integer.specs.Sum.{sum}
 use Rattle.tape.specs.declared.refusal.Refusal.{Refusal}
 use Rattle.integer.specs.Tests.{outside, any}
-use Rattle.tape.specs.Format.{sizeCommand, stateCommand, inputCommand, driftCommand, columnCommand, startCommand, roundsCommand, decoded, wrongSize, beyond, wrongColumn, wrong}
+use Rattle.commands.specs.Format.{sizeCommand, stateCommand, inputCommand, driftCommand, columnCommand, startCommand, roundsCommand, decoded, wrongSize, beyond, wrongColumn, wrong}
 use Rattle.tape.specs.Reading.{obeySize, obeyEntry, lacks, absent, obeyEnd, obey, next, readFrom, reading}
 use Rattle.tape.specs.Refusals.{row, figure}
 use Rattle.problem.specs.Model.{stateAt, modelSum, rounded, residual}

@@ -9,7 +9,7 @@ use lib.IntN.{ℤ, pos, natAbs, _+ℤ_, _-ℤ_, _*ℤ_, zero-*ℤ}
 use Rattle.integer.specs.Places.{at, Bounded, Stretch, Steps}
 use Rattle.integer.proofs.Places.{lt-or-le, zeros, fill-at}
 use Rattle.integer.proofs.Sum.{sum-zero}
-use Rattle.tape.specs.Ranges.{mostNumber, mostMultiplier}
+use Rattle.commands.specs.Ranges.{mostNumber, mostMultiplier}
 use Rattle.tape.specs.declared.Tape.{Tape}
 use Rattle.tape.specs.Legal.{Legal}
 use Rattle.problem.specs.Model.{Term, problemOf, stateAt, modelSum, residual}

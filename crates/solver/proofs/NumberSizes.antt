@@ -7,7 +7,7 @@ use lib.IntN.{ℤ, natAbs, _+ℤ_}
 use Rattle.integer.specs.Quotient.{_÷_}
 use Rattle.integer.proofs.Sizes.{size-add, back, back-is, Formed, formed}
 use Rattle.integer.proofs.Quotient.{size-quotient}
-use Rattle.tape.specs.Ranges.{mostMultiplier}
+use Rattle.commands.specs.Ranges.{mostMultiplier}
 
 -- a multiplier y plus the quotient z ÷ d, which a call returned as q
 pub moved : (y z d q : ℤ) {B : ℕ} → natAbs y ≤ mostMultiplier → natAbs z ≤ B → 16777216 + B < 2 ^ 63 → back q ≡ z ÷ d →

@@ -5,7 +5,7 @@ use lib.IntN.{ℤ, pos, _+ℤ_, _-ℤ_, _*ℤ_, negℤ}
 use lib.Signed.{leZ, ltZ}
 use Rattle.integer.specs.Limited.{limited}
 use Rattle.integer.specs.Quotient.{_÷_}
-use Rattle.tape.specs.Ranges.{mostMultiplier}
+use Rattle.commands.specs.Ranges.{mostMultiplier}
 use Rattle.tape.specs.declared.Tape.{Tape}
 use Rattle.integer.specs.Tests.{outside, any}
 use Rattle.problem.specs.Model.{Term, Problem, Plan, problemOf, modelSum, rounded}

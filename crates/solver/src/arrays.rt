@@ -4,7 +4,7 @@ ghost use lib.ListN.{replicate};
 ghost use lib.IntN.{pos, natAbs};
 ghost use Rattle.integer.specs.Order.{_≼_};
 ghost use Rattle.integer.specs.Places.{at, Bounded, Stretch};
-ghost use Rattle.tape.specs.Ranges.{mostGain, mostRounds, mostMultiplier};
+ghost use Rattle.commands.specs.Ranges.{mostGain, mostRounds, mostMultiplier};
 ghost use Rattle.evaluate.specs.Padded.{termAt};
 ghost use Rattle.evaluate.specs.Ranges.{Tables};
 ghost use Rattle.solver.specs.Rounds.{ahead, minimiser, ascended};

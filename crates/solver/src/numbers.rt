@@ -3,14 +3,14 @@ ghost use Prim.Native.Nat.{_≤_};
 ghost use mathlib.Core.Path.{_≡_};
 ghost use lib.IntN.{pos, natAbs};
 ghost use Rattle.integer.specs.Order.{_≼_};
-ghost use Rattle.tape.specs.Ranges.{mostGain, mostRounds, mostMultiplier};
+ghost use Rattle.commands.specs.Ranges.{mostGain, mostRounds, mostMultiplier};
 ghost use Rattle.evaluate.specs.Padded.{termOf};
 ghost use Rattle.evaluate.specs.Ranges.{Ranged};
 ghost use Rattle.solver.specs.Rounds.{ahead, minimiser, ascended};
+use commands::range::LEAST_MULTIPLIER;
+use commands::range::MOST_MULTIPLIER;
 use integer::number::limit;
 use integer::number::quotient;
-use tape::range::LEAST_MULTIPLIER;
-use tape::range::MOST_MULTIPLIER;
 
 // The multiplier ahead of y in round k, from the one before y.
 pub fn ahead_of(k: i64, y: i64, previous: i64) -> i64

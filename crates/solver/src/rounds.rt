@@ -6,7 +6,7 @@ ghost use lib.ListN.{replicate};
 ghost use lib.IntN.{pos, natAbs};
 ghost use lib.Signed.{ltZ};
 ghost use Rattle.integer.specs.Places.{Bounded};
-ghost use Rattle.tape.specs.Ranges.{mostNumber, mostMultiplier};
+ghost use Rattle.commands.specs.Ranges.{mostNumber, mostMultiplier};
 ghost use Rattle.tape.specs.Legal.{Legal};
 ghost use Rattle.problem.specs.Model.{problemOf, residual};
 ghost use Rattle.problem.specs.Dual.{floor, ceiling};

@@ -8,12 +8,12 @@ use borrow.Author.Tests.{le-ltb}
 use lib.ListN.{length}
 use Rattle.tape.specs.declared.Reading.{Reading}
 use Rattle.tape.specs.declared.Tape.{Tape}
-use Rattle.tape.specs.declared.command.Entry.{Entry}
-use Rattle.tape.specs.declared.command.Entry.the-variants.{State, Input, Drift, Column, Start, Rounds}
+use Rattle.commands.specs.declared.Entry.{Entry}
+use Rattle.commands.specs.declared.Entry.the-variants.{State, Input, Drift, Column, Start, Rounds}
 use Rattle.tape.specs.declared.reader.Reader.{Reader}
 use Rattle.tape.specs.declared.reader.Verdict.{Verdict}
 use Rattle.tape.specs.declared.reader.Verdict.the-variants.{Going, Ended, Refused}
-use Rattle.tape.specs.Format.{bytesOf}
+use Rattle.commands.specs.Format.{bytesOf}
 use Rattle.tape.specs.Reading.{next, outcome, readFrom, opened, reading}
 use Rattle.tape.proofs.Steps.{next-leads}
 

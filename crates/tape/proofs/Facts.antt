@@ -21,19 +21,19 @@ use Rattle.integer.proofs.Places.{lt-or-le, zeros}
 use Rattle.tape.specs.declared.Answer.the-variants as answer
 use Rattle.tape.specs.declared.Reading.{Reading}
 use Rattle.tape.specs.declared.Tape.{Tape}
-use Rattle.tape.specs.declared.command.Command.{Command}
-use Rattle.tape.specs.declared.command.Command.the-variants as command
-use Rattle.tape.specs.declared.command.Entry.{Entry}
-use Rattle.tape.specs.declared.command.Entry.the-variants.{State, Input, Drift, Column, Start, Rounds}
+use Rattle.commands.specs.declared.Command.{Command}
+use Rattle.commands.specs.declared.Command.the-variants as command
+use Rattle.commands.specs.declared.Entry.{Entry}
+use Rattle.commands.specs.declared.Entry.the-variants.{State, Input, Drift, Column, Start, Rounds}
 use Rattle.tape.specs.declared.reader.Reader.{Reader}
 use Rattle.tape.specs.declared.reader.Verdict.{Verdict}
 use Rattle.tape.specs.declared.reader.Verdict.the-variants.{Going, Ended, Refused}
 use Rattle.tape.specs.declared.refusal.Refusal.{Refusal}
 use Rattle.tape.specs.declared.refusal.Refusal.the-variants.{Cut}
-use Rattle.tape.specs.Tape.{blank}
-use Rattle.tape.specs.Format.{whole, decoded, sizeCommand, stateCommand, inputCommand, driftCommand, columnCommand, startCommand, roundsCommand}
+use Rattle.tape.specs.Tape.{blank, withSize, with}
+use Rattle.commands.specs.Format.{whole, decoded, sizeCommand, stateCommand, inputCommand, driftCommand, columnCommand, startCommand, roundsCommand}
 use Rattle.integer.specs.Tests.{outside}
-use Rattle.tape.specs.Format.{wrongSize, beyond, wrongColumn, wrong, placeOf, withSize, with}
+use Rattle.commands.specs.Format.{wrongSize, beyond, wrongColumn, wrong, placeOf}
 use Rattle.tape.specs.Legal.{Legal}
 use Rattle.tape.specs.Reading.{marked, sized, lacks, absent, next, refusedTape, outcome, readFrom, opened, reading}
 use Rattle.integer.proofs.Tests.{by-test, none, in-range, in-size}

@@ -1,5 +1,4 @@
 -- `Facts` has what every accepted tape has, for the crates above; the files before it hold what it and the functions' proofs cite.
-pub mod Tests
 pub mod Steps
 pub mod Facts
 pub mod Enough

@@ -1,9 +1,11 @@
 -- A tape's numbers by the names of document 01.
-use Prim.Native.Nat.{ℕ}
+use Prim.Native.Nat.{ℕ, _+_, _*_}
 use mathlib.Core.List.{List}
-use lib.ListN.{replicate}
+use lib.ListN.{replicate, set}
 use lib.IntN.{ℤ, pos}
 use Rattle.integer.specs.Places.{at}
+use Rattle.commands.specs.declared.Entry.{Entry}
+use Rattle.commands.specs.declared.Entry.the-variants.{State, Input, Drift, Column, Start, Rounds}
 use Rattle.tape.specs.declared.Tape.{Tape}
 
 abbrev pub tapeOf : ℕ → ℕ → ℕ → List ℤ → List ℤ → List ℤ → List ℤ → List ℤ → List ℤ → List ℤ → List ℤ → ℤ → ℕ → ℤ → Tape
@@ -34,3 +36,22 @@ blank = tapeOf 0 0 0 (zeros 36) (zeros 24) (zeros 6) (zeros 10) (zeros 10) (zero
 -- The reference r of a column at a step: the same in all steps.
 abbrev pub referenceAt : Tape → ℕ → ℕ → ℤ
 referenceAt t column step = at (t .reference) column
+
+-- the sizes, or the entry's numbers, in place of those that are there
+abbrev pub withSize : Tape → ℕ → ℕ → ℕ → Tape
+withSize t n m horizon =
+    tapeOf n m horizon (t .a) (t .b) (t .drift) (t .low) (t .high) (t .reference) (t .weight) (t .start) (t .gain) (t .rounds) (t .wanted)
+
+abbrev pub with : Tape → Entry → Tape
+with t (State i j v) =
+    tapeOf (t .n) (t .m) (t .horizon) (set (t .a) (6 * i + j) v) (t .b) (t .drift) (t .low) (t .high) (t .reference) (t .weight) (t .start) (t .gain) (t .rounds) (t .wanted)
+with t (Input i j v) =
+    tapeOf (t .n) (t .m) (t .horizon) (t .a) (set (t .b) (4 * i + j) v) (t .drift) (t .low) (t .high) (t .reference) (t .weight) (t .start) (t .gain) (t .rounds) (t .wanted)
+with t (Drift i v) =
+    tapeOf (t .n) (t .m) (t .horizon) (t .a) (t .b) (set (t .drift) i v) (t .low) (t .high) (t .reference) (t .weight) (t .start) (t .gain) (t .rounds) (t .wanted)
+with t (Column c lo hi r h) =
+    tapeOf (t .n) (t .m) (t .horizon) (t .a) (t .b) (t .drift) (set (t .low) c lo) (set (t .high) c hi) (set (t .reference) c r) (set (t .weight) c h) (t .start) (t .gain) (t .rounds) (t .wanted)
+with t (Start i v) =
+    tapeOf (t .n) (t .m) (t .horizon) (t .a) (t .b) (t .drift) (t .low) (t .high) (t .reference) (t .weight) (set (t .start) i v) (t .gain) (t .rounds) (t .wanted)
+with t (Rounds g rounds wanted) =
+    tapeOf (t .n) (t .m) (t .horizon) (t .a) (t .b) (t .drift) (t .low) (t .high) (t .reference) (t .weight) (t .start) g rounds wanted

@@ -1,6 +1,4 @@
 // The tape: its numbers, its refusals, and `read`.
-mod command;
-pub mod range;
 mod reader;
 pub mod refusal;
 

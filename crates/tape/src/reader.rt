@@ -3,22 +3,23 @@ ghost use Prim.Native.Nat.{_+_, _^_, _<_, _≤_};
 ghost use mathlib.Core.Path.{_≡_};
 ghost use mathlib.Core.Bool.{false};
 ghost use lib.ListN.{length};
-ghost use Rattle.tape.specs.Format.{bytesOf, beyond, with};
+ghost use Rattle.tape.specs.Tape.{with};
+ghost use Rattle.commands.specs.Format.{bytesOf, beyond};
 ghost use Rattle.tape.specs.Reading.{refuse, obeySize, obeyEntry, lacks, absent, obeyEnd, obey, next, opened, reading};
-ghost use Rattle.tape.specs.Room.{Room};
+ghost use Rattle.commands.specs.Room.{Room};
 use crate::Answer;
 use crate::Reading;
 use crate::Tape;
 use crate::blank_tape;
-use crate::command::Command;
-use crate::command::Entry;
-use crate::command::bytes_of;
-use crate::command::decode;
-use crate::command::is_beyond;
-use crate::command::is_wrong;
-use crate::command::is_wrong_size;
-use crate::command::place_of;
 use crate::refusal::Refusal;
+use commands::Command;
+use commands::Entry;
+use commands::bytes_of;
+use commands::decode;
+use commands::is_beyond;
+use commands::is_wrong;
+use commands::is_wrong_size;
+use commands::place_of;
 
 pub enum Verdict {
     Going,

@@ -10,7 +10,7 @@ use Rattle.integer.specs.Places.{at}
 use Rattle.integer.specs.Tests.{outside, any}
 use Rattle.integer.proofs.Sizes.{widened}
 use Rattle.integer.proofs.Tests.{any-at, any-more}
-use Rattle.tape.specs.Ranges.{mostMultiplier}
+use Rattle.commands.specs.Ranges.{mostMultiplier}
 use Rattle.judge.proofs.lent.is_any_outside.Statement.{statement}
 use Rattle.judge.proofs.lent.is_any_outside.Tie as tie
 

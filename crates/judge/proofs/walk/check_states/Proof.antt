@@ -9,7 +9,7 @@ use borrow.Author.Needs.{needs}
 use Rattle.integer.specs.Places.{at, Bounded, Stretch}
 use Rattle.integer.proofs.Sizes.{called, back, Formed, widened}
 use Rattle.integer.proofs.Places.{stretch-none, stretch-store}
-use Rattle.tape.specs.Ranges.{mostNumber}
+use Rattle.commands.specs.Ranges.{mostNumber}
 use Rattle.evaluate.proofs.LinearSizes.{modelAt, size-model}
 use Rattle.judge.specs.declared.walk.Check.the-variants.{Passed}
 use Rattle.judge.specs.Checks.{first, stateCheck}

@@ -6,7 +6,7 @@ use lib.ListN.{length}
 use borrow.Author.Needs.{needs}
 use Rattle.integer.specs.Places.{Bounded}
 use Rattle.integer.proofs.Places.{all-bounded}
-use Rattle.tape.specs.Ranges.{mostNumber}
+use Rattle.commands.specs.Ranges.{mostNumber}
 use Rattle.problem.specs.Model.{problemOf}
 use Rattle.evaluate.specs.Padded.{paddedPlan}
 use Rattle.integer.specs.Tests.{any}

@@ -8,7 +8,7 @@ use borrow.Author.Needs.{needs}
 use Rattle.integer.specs.Places.{at, Bounded, Stretch}
 use Rattle.integer.proofs.Sizes.{called, back}
 use Rattle.integer.proofs.Places.{stretch-none, stretch-store}
-use Rattle.tape.specs.Ranges.{mostNumber}
+use Rattle.commands.specs.Ranges.{mostNumber}
 use Rattle.problem.specs.Model.{rounded}
 use Rattle.evaluate.proofs.LinearSizes.{modelAt, size-model}
 use Rattle.integer.specs.Tests.{any}

@@ -5,7 +5,7 @@ use native.Mathlib.Omega.{arith}
 use lib.Dec.{ltb}
 use borrow.Author.Tests.{lt-ltb, le-ltb}
 use borrow.Author.Needs.{needs}
-use Rattle.tape.specs.Format.{beyond, wrong}
+use Rattle.commands.specs.Format.{beyond, wrong}
 use Rattle.tape.specs.Reading.{obeyEntry}
 use Rattle.tape.proofs.reader.obey_entry.Statement.{statement}
 use Rattle.tape.proofs.reader.obey_entry.Tie as tie

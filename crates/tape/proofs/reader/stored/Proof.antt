@@ -2,8 +2,8 @@ use mathlib.Core.Path.{_≡_}
 use native.Mathlib.Omega.{arith}
 use borrow.Author.Needs.{needs}
 use Rattle.integer.proofs.Sizes.{called}
-use Rattle.tape.specs.declared.command.Entry.{Entry}
-use Rattle.tape.proofs.Tests.{Inside, inside}
+use Rattle.commands.specs.declared.Entry.{Entry}
+use Rattle.commands.proofs.Tests.{Inside, inside}
 use Rattle.tape.proofs.reader.stored.Statement.{statement}
 use Rattle.tape.proofs.reader.stored.Tie as tie
 

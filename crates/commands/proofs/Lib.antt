@@ -1,0 +1,2 @@
+-- Laws about commands.
+pub mod Tests

@@ -1,0 +1,42 @@
+-- Laws about commands: one that is cut or whole, and the indexes of an entry that is not beyond the size.
+use Prim.Native.Nat.{ℕ, _+_, _-_, _<_, _≤_}
+use mathlib.Core.Path.{_≡_}
+use mathlib.Core.Bool.{false}
+use mathlib.Core.List.{List, [], _∷_}
+use native.Mathlib.Omega.{arith}
+use lib.Dec.{leb}
+use lib.ListN.{length}
+use borrow.Author.Tests.{le-leb, lt-leb, leb-false}
+use Rattle.integer.proofs.Tests.{none}
+use Rattle.commands.specs.declared.Command.{Command}
+use Rattle.commands.specs.declared.Command.the-variants.{Cut}
+use Rattle.commands.specs.declared.Entry.{Entry}
+use Rattle.commands.specs.declared.Entry.the-variants.{State, Input, Drift, Column, Start, Rounds}
+use Rattle.commands.specs.Format.{whole, beyond}
+
+-- ---- A command of k operand bytes
+
+pub cut : (k : ℕ) (s : List ℕ) (at : ℕ) (c : Command) → at < length s → length s - at ≤ k → (Cut ≡ whole k s at c) × (at < length s)
+cut k s at c h l = (rw (le-leb (length s) (at + k) (omega arith)), h)
+
+pub uncut : (k : ℕ) (s : List ℕ) (at : ℕ) {c d : Command} → k < length s - at → d ≡ c → (d ≡ whole k s at c) × (at + (1 + k) ≤ length s)
+uncut k s at h e = (rw (lt-leb (length s) (at + k) (omega arith)) e, omega arith)
+
+-- ---- The indexes of an entry that is not beyond the size
+
+abbrev pub Inside : Entry → Type 0
+Inside (State i j v) = (i < 6) × (j < 6)
+Inside (Input i j v) = (i < 6) × (j < 4)
+Inside (Drift i v) = i < 6
+Inside (Column c lo hi r h) = c < 10
+Inside (Start i v) = i < 6
+Inside (Rounds g rounds t) = Unit {0}
+
+pub inside : (n m : ℕ) (e : Entry) → n ≤ 6 → m ≤ 4 → beyond n m e ≡ false → Inside e
+unfolding beyond
+inside n m (State i j v) h l e = let t = none (leb n i) (leb n j ∷ []) e in omega (arith, leb-false)
+inside n m (Input i j v) h l e = let t = none (leb n i) (leb m j ∷ []) e in omega (arith, leb-false)
+inside n m (Drift i v) h l e = omega (arith, leb-false n i e)
+inside n m (Column c lo hi r w) h l e = omega (arith, leb-false (n + m) c e)
+inside n m (Start i v) h l e = omega (arith, leb-false n i e)
+inside n m (Rounds g rounds t) h l e = tt

@@ -1,0 +1,120 @@
+-- Document 01, "Tape commands": its table, line by line.
+use Prim.Native.Nat.{ℕ, _+_, _*_}
+use mathlib.Core.Bool.{Bool, false, cond, _||_}
+use mathlib.Core.List.{List}
+use lib.Dec.{eqb, ltb, leb}
+use lib.ListN.{length, getD}
+use lib.IntN.{ℤ, pos}
+use lib.Signed.{ltZ}
+use Rattle.integer.specs.Operand.{unsigned, signed, operand}
+use Rattle.integer.specs.Tests.{outside}
+use Rattle.commands.specs.declared.Command.{Command}
+use Rattle.commands.specs.declared.Command.the-variants.{Unknown, Cut, Size, Give, End}
+use Rattle.commands.specs.declared.Entry.{Entry}
+use Rattle.commands.specs.declared.Entry.the-variants.{State, Input, Drift, Column, Start, Rounds}
+use Rattle.commands.specs.Ranges.{mostEntry, mostDrift, mostNumber, mostWeight, mostRounds, exceeding}
+
+-- ---- Byte and operands. A command that has not all of its operands is cut
+
+abbrev pub whole : ℕ → List ℕ → ℕ → Command → Command
+whole operands s at c = cond (leb (length s) (at + operands)) Cut c
+
+-- k unsigned, or signed, bytes at a place
+abbrev pub unsignedAt : ℕ → List ℕ → ℕ → ℕ
+unsignedAt k s p = unsigned (operand k s p)
+
+abbrev pub signedAt : ℕ → List ℕ → ℕ → ℤ
+signedAt k s p = signed (operand k s p)
+
+-- n, m, N: one byte each
+unfoldable pub sizeCommand : List ℕ → ℕ → Command
+sizeCommand s at = whole 3 s at (Size (unsignedAt 1 s (at + 1)) (unsignedAt 1 s (at + 2)) (unsignedAt 1 s (at + 3)))
+
+-- i, j, value: 2 signed bytes
+unfoldable pub stateCommand : List ℕ → ℕ → Command
+stateCommand s at = whole 4 s at (Give (State (unsignedAt 1 s (at + 1)) (unsignedAt 1 s (at + 2)) (signedAt 2 s (at + 3))))
+
+-- i, j, value: 2 signed
+unfoldable pub inputCommand : List ℕ → ℕ → Command
+inputCommand s at = whole 4 s at (Give (Input (unsignedAt 1 s (at + 1)) (unsignedAt 1 s (at + 2)) (signedAt 2 s (at + 3))))
+
+-- i, value: 4 signed
+unfoldable pub driftCommand : List ℕ → ℕ → Command
+driftCommand s at = whole 5 s at (Give (Drift (unsignedAt 1 s (at + 1)) (signedAt 4 s (at + 2))))
+
+-- column, lo, hi, r: 2 signed each, h: 1
+unfoldable pub columnCommand : List ℕ → ℕ → Command
+columnCommand s at =
+    whole 8 s at
+    (Give (Column (unsignedAt 1 s (at + 1)) (signedAt 2 s (at + 2)) (signedAt 2 s (at + 4)) (signedAt 2 s (at + 6)) (pos (unsignedAt 1 s (at + 8)))))
+
+-- i, value: 2 signed
+unfoldable pub startCommand : List ℕ → ℕ → Command
+startCommand s at = whole 3 s at (Give (Start (unsignedAt 1 s (at + 1)) (signedAt 2 s (at + 2))))
+
+-- g: 2, R: 2, T: 4, all unsigned
+unfoldable pub roundsCommand : List ℕ → ℕ → Command
+roundsCommand s at = whole 8 s at (Give (Rounds (pos (unsignedAt 2 s (at + 1))) (unsignedAt 2 s (at + 3)) (pos (unsignedAt 4 s (at + 5)))))
+
+unfoldable pub decoded : List ℕ → ℕ → Command
+decoded s at =
+    let byte = getD s at 0 in
+    cond (eqb byte 0x10) (sizeCommand s at)
+    (cond (eqb byte 0x20) (stateCommand s at)
+    (cond (eqb byte 0x21) (inputCommand s at)
+    (cond (eqb byte 0x22) (driftCommand s at)
+    (cond (eqb byte 0x30) (columnCommand s at)
+    (cond (eqb byte 0x40) (startCommand s at)
+    (cond (eqb byte 0x50) (roundsCommand s at)
+    (cond (eqb byte 0xFF) End
+    Unknown)))))))
+
+-- the command byte and its operands
+abbrev pub bytesOf : Entry → ℕ
+bytesOf (State i j v) = 5
+bytesOf (Input i j v) = 5
+bytesOf (Drift i v) = 6
+bytesOf (Column c lo hi r h) = 9
+bytesOf (Start i v) = 4
+bytesOf (Rounds g rounds t) = 9
+
+-- ---- Meaning: indexes and ranges
+
+-- n 1 to 6, m 1 to 4, N 1 to 12
+unfoldable pub wrongSize : ℕ → ℕ → ℕ → Bool
+wrongSize n m horizon = ltb n 1 || ltb 6 n || ltb m 1 || ltb 4 m || ltb horizon 1 || ltb 12 horizon
+
+-- an index outside the size
+unfoldable pub beyond : ℕ → ℕ → Entry → Bool
+beyond n m (State i j v) = leb n i || leb n j
+beyond n m (Input i j v) = leb n i || leb m j
+beyond n m (Drift i v) = leb n i
+beyond n m (Column c lo hi r h) = leb (n + m) c
+beyond n m (Start i v) = leb n i
+beyond n m (Rounds g rounds t) = false
+
+-- lo, hi, r -20,000 to 20,000, lo ≤ hi, h 1 to 255
+unfoldable pub wrongColumn : ℤ → ℤ → ℤ → ℤ → Bool
+wrongColumn lo hi r h =
+    exceeding mostNumber lo || exceeding mostNumber hi || exceeding mostNumber r
+    || ltZ hi lo || outside (pos 1) (pos mostWeight) h
+
+-- an operand outside its range, or lo > hi
+unfoldable pub wrong : Entry → Bool
+wrong (State i j v) = exceeding mostEntry v
+wrong (Input i j v) = exceeding mostEntry v
+wrong (Drift i v) = exceeding mostDrift v
+wrong (Column c lo hi r h) = wrongColumn lo hi r h
+wrong (Start i v) = exceeding mostNumber v
+wrong (Rounds g rounds t) = ltZ g (pos 1) || ltb rounds 1 || ltb mostRounds rounds
+
+-- ---- What is given
+
+-- the entry's place among all places: those of A, of B, of w, the columns, x(0), and command 50
+abbrev pub placeOf : Entry → ℕ
+placeOf (State i j v) = 6 * i + j
+placeOf (Input i j v) = 36 + (4 * i + j)
+placeOf (Drift i v) = 60 + i
+placeOf (Column c lo hi r h) = 66 + c
+placeOf (Start i v) = 76 + i
+placeOf (Rounds g rounds t) = 82

@@ -6,3 +6,4 @@ pub mod TermSizes
 pub mod TermTables
 pub mod FloorSizes
 pub mod Held
+pub mod HeldSteps

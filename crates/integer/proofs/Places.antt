@@ -6,7 +6,7 @@ use mathlib.Core.List.{List, _++_}
 use native.Mathlib.Omega.{arith}
 use native.Mathlib.Decide.{decLe}
 use native.Mathlib.Nat.{div-add-mod, mod-lt, div-lt-iff-lt-mul}
-use lib.ListN.{length, length-set, getD, set, take, drop, replicate, List·getD-append, List·getD-eq-default}
+use lib.ListN.{length, length-set, set, take, drop, replicate, List·getD-append, List·getD-eq-default}
 use lib.Seq.{getD-set-same, getD-set-other, getD-take, getD-drop, drop-at, length-take-le, ext-getD}
 use lib.IntN.{ℤ, pos, natAbs}
 use borrow.Rule.Slice.PartMut.{putMid, take-put, drop-put, same-len-mid, mid-len}
@@ -133,3 +133,18 @@ steps-bounded {B} d k g l h s b = record { each = λ p. go p (lt-or-le p (d * k)
         let q : p / d < k = div-lt-iff-lt-mul h .1 (omega arith) in
         rw (sym (div-add-mod p d), s .each (p / d) (p % d) q (mod-lt p h)) (b (p / d) (p % d) q (mod-lt p h))
     go p (inr m) = rw (s .rest p m) (omega arith)
+
+pub stretch-bounded : {B o w : ℕ} {f : ℕ → ℤ} {old new : List ℤ} → Bounded B old → ((j : ℕ) → j < w → natAbs (f j) ≤ B) →
+    Stretch o w f old new → Bounded B new
+stretch-bounded {B} {o} {w} {f} {old} {new} b h s = record { each = λ p. go p (lt-or-le p o) (lt-or-le p (o + w)) }
+  where
+    go : (p : ℕ) → (p < o) ⊎ (o ≤ p) → (p < o + w) ⊎ (o + w ≤ p) → natAbs (at new p) ≤ B
+    go p (inl l) _ = rw (s .outside p (inl l)) (b .each p)
+    go p (inr l) (inr k) = rw (s .outside p (inr k)) (b .each p)
+    go p (inr l) (inl k) = let e : p ≡ o + (p - o) = omega arith in rw (e, s .inside (p - o) (omega arith)) (h (p - o) (omega arith))
+
+pub stretch-cong : {o w : ℕ} {f g : ℕ → ℤ} {old new : List ℤ} → Stretch o w f old new → ((j : ℕ) → j < w → f j ≡ g j) → Stretch o w g old new
+stretch-cong s e = record { inside = λ j h. s .inside j h ∙ e j h; outside = s .outside; same = s .same }
+
+pub stretch-beside : {o w : ℕ} {f : ℕ → ℤ} {old new : List ℤ} → Stretch o w f old new → (p : ℕ) → (o ≤ p → o + w ≤ p) → at new p ≡ at old p
+stretch-beside {o} s p h = ⊎-elim (λ l. s .outside p (inl l)) (λ l. s .outside p (inr (h l))) (lt-or-le p o)

@@ -11,7 +11,7 @@ use lib.Signed.{ltZ}
 use Rattle.integer.specs.Order.{_≼_}
 use Rattle.integer.specs.Tests.{outside, any}
 use Rattle.integer.proofs.Order.{order}
-use Rattle.integer.proofs.Sizes.{size-by}
+use Rattle.integer.proofs.Sizes.{size-by, size-parts}
 use Rattle.integer.proofs.Places.{lt-or-le}
 
 -- ---- Tests in a definition
@@ -58,6 +58,9 @@ not-outside lo hi v h = rw (not-less v lo (h .0), not-less hi v (h .1))
 
 pub in-size : (B : ℕ) (v : ℤ) → outside (negℤ (pos B)) (pos B) v ≡ false → natAbs v ≤ B
 in-size B v e = let h = in-range (negℤ (pos B)) (pos B) v e in size-by (h .0) (h .1)
+
+pub range-size : (lo hi v : ℤ) {B : ℕ} → natAbs lo ≤ B → natAbs hi ≤ B → outside lo hi v ≡ false → natAbs v ≤ B
+range-size lo hi v l h e = let w = in-range lo hi v e in omega (arith, order, size-parts lo, size-parts hi, size-parts v)
 
 -- ---- p || y, where the code has found p to be q: it goes on with q where q holds, and with y where it does not
 

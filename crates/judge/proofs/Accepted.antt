@@ -8,29 +8,29 @@ use borrow.Author.Tests.{eqb-true, not-false}
 use lib.ListN.{length}
 use lib.IntN.{ℤ, _-ℤ_}
 use lib.Signed.{ltZ}
+use Rattle.integer.specs.Tests.{outside}
 use Rattle.integer.proofs.Order.{order}
 use Rattle.integer.proofs.Operand.{Bytes}
+use Rattle.integer.proofs.Tests.{by-test, none, in-range, not-outside}
 use Rattle.tape.specs.declared.Answer.{Answer}
 use Rattle.tape.specs.declared.Answer.the-variants as answer
 use Rattle.tape.specs.declared.Tape.{Tape}
-use Rattle.integer.specs.Tests.{outside}
 use Rattle.tape.specs.Legal.{Legal}
 use Rattle.tape.specs.Reading.{reading}
-use Rattle.integer.proofs.Tests.{by-test, none, in-range, not-outside}
 use Rattle.tape.proofs.Facts.{legal}
 use Rattle.problem.specs.Model.{Problem, Plan, problemOf, planOf, multipliersOf, sumAt, rounded}
 use Rattle.problem.specs.Cost.{Follows, planCost}
 use Rattle.problem.specs.Dual.{floor, ceiling}
 use Rattle.problem.proofs.Duality.{gap-below-rivals, impossible}
+use Rattle.lent.specs.declared.walk.Check.{Check}
+use Rattle.lent.specs.declared.walk.Check.the-variants.{Passed, Refused}
+use Rattle.lent.specs.Checks.{orElse, first, limits, meets, stateCheck, stepCheck, planCheck, wrongMultipliers, wrongPlanLength, wrongMultipliersLength}
+use Rattle.lent.proofs.Steps.{both-passed, passed-test, first-each, first-all, limits-within, within-limits}
 use Rattle.judge.specs.declared.Judged.{Judged}
 use Rattle.judge.specs.declared.Shown.{Shown}
-use Rattle.judge.specs.declared.walk.Check.{Check}
-use Rattle.judge.specs.declared.walk.Check.the-variants.{Passed, Refused}
-use Rattle.judge.specs.Checks.{orElse, first, limits, meets, stateCheck, stepCheck, planCheck, wrongMultipliers}
-use Rattle.judge.specs.Judging.{wrongPlanLength, wrongMultipliersLength, gapWithin, afterCheck, judgedOn, judgedAfterRead, floorAbove, shownOn, shownAfterRead}
+use Rattle.judge.specs.Judging.{gapWithin, afterCheck, judgedOn, judgedAfterRead, floorAbove, shownOn, shownAfterRead}
 use Rattle.judge.specs.Judging as judging
 use Rattle.judge.specs.Demand.{Backed, Founded}
-use Rattle.judge.proofs.Steps.{both-passed, passed-test, first-each, first-all, limits-within, within-limits}
 
 -- ---- A plan that passed follows the tape
 

@@ -1,4 +1,2 @@
--- `Accepted` has demand 3 over the definitions; the other files hold what it and the functions' proofs cite.
-pub mod Steps
-pub mod Multipliers
+-- Demand 3 over the definitions.
 pub mod Accepted

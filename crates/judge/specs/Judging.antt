@@ -1,9 +1,7 @@
 -- Document 01, "Calls": judging a plan with multipliers, and multipliers for impossibility.
-use Prim.Native.Nat.{ℕ, _+_, _*_}
-use mathlib.Core.Bool.{Bool, not, cond, _||_}
+use Prim.Native.Nat.{ℕ}
+use mathlib.Core.Bool.{cond, _||_}
 use mathlib.Core.List.{List}
-use lib.Dec.{eqb}
-use lib.ListN.{length}
 use lib.IntN.{ℤ, _-ℤ_}
 use lib.Signed.{ltZ}
 use Rattle.tape.specs.Reading.{reading}
@@ -14,20 +12,13 @@ use Rattle.tape.specs.declared.refusal.Refusal.the-variants.{Length, Multiplier
 use Rattle.problem.specs.Model.{problemOf, planOf, multipliersOf}
 use Rattle.problem.specs.Cost.{planCost}
 use Rattle.problem.specs.Dual.{floor, ceiling}
+use Rattle.lent.specs.declared.walk.Check.{Check}
+use Rattle.lent.specs.declared.walk.Check.the-variants as check
+use Rattle.lent.specs.Checks.{wrongPlanLength, wrongMultipliersLength, wrongMultipliers, planCheck}
 use Rattle.judge.specs.declared.Judged.{Judged}
 use Rattle.judge.specs.declared.Judged.the-variants.{Gap, Refused}
 use Rattle.judge.specs.declared.Shown.{Shown}
 use Rattle.judge.specs.declared.Shown.the-variants as answers
-use Rattle.judge.specs.declared.walk.Check.{Check}
-use Rattle.judge.specs.declared.walk.Check.the-variants as check
-use Rattle.judge.specs.Checks.{wrongMultipliers, planCheck}
-
--- 9: N(n+m) plan numbers, N × n multipliers
-abbrev pub wrongPlanLength : Tape → List ℤ → Bool
-wrongPlanLength t plan = not (eqb (length plan) (t .horizon * (t .n + t .m)))
-
-abbrev pub wrongMultipliersLength : Tape → List ℤ → Bool
-wrongMultipliersLength t y = not (eqb (length y) (t .horizon * t .n))
 
 -- 13: the gap is above T
 unfoldable pub gapWithin : Tape → ℤ → Judged

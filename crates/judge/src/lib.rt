@@ -1,7 +1,4 @@
 // Judging a plan with multipliers, and multipliers for impossibility.
-mod lent;
-mod walk;
-
 ghost use mathlib.Core.Path.{_≡_};
 ghost use lib.IntN.{_-ℤ_};
 ghost use Rattle.integer.specs.Places.{Bounded};
@@ -13,18 +10,18 @@ ghost use Rattle.problem.specs.Cost.{planCost};
 ghost use Rattle.problem.specs.Dual.{floor};
 ghost use Rattle.evaluate.specs.Padded.{padded, paddedPlan};
 ghost use Rattle.evaluate.specs.Terms.{TermsOf};
+ghost use Rattle.evaluate.specs.Held.{BlankPlan, BlankMultipliers};
 ghost use Rattle.judge.specs.Judging.{gapWithin, judgedOn, judged, floorAbove, shownOn, shown};
 ghost use Rattle.judge.specs.Demand.{Backed, Founded};
-ghost use Rattle.evaluate.specs.Held.{BlankPlan, BlankMultipliers};
-use crate::lent::is_any_outside;
-use crate::lent::padded_multipliers;
-use crate::walk::Check;
-use crate::walk::checked_plan;
 use evaluate::cost::ceiling_of;
 use evaluate::cost::plan_cost;
 use evaluate::dual::floor_of;
 use evaluate::terms::Terms;
 use evaluate::terms::terms_of;
+use lent::multipliers::is_any_outside;
+use lent::multipliers::padded_multipliers;
+use lent::walk::Check;
+use lent::walk::checked_plan;
 use tape::Answer;
 use tape::Tape;
 use tape::read;

@@ -6,38 +6,39 @@ use mathlib.Core.List.{List}
 use native.Mathlib.Omega.{arith}
 use lib.IntN.{ℤ}
 use lib.Signed.{ltZ}
+use Rattle.integer.specs.Tests.{outside}
 use Rattle.integer.proofs.Operand.{Bytes}
+use Rattle.integer.proofs.Tests.{by-test}
 use Rattle.tape.specs.declared.Answer.{Answer}
 use Rattle.tape.specs.declared.Answer.the-variants as answer
 use Rattle.tape.specs.declared.Tape.{Tape}
 use Rattle.tape.specs.declared.refusal.Refusal.{Refusal}
 use Rattle.tape.specs.declared.refusal.Refusal.the-variants.{Cut, Unknown, Misplaced, NoSuchPlace, OutOfRange, Twice, Absent, Overrun}
 use Rattle.tape.specs.declared.refusal.Refusal.the-variants.{Length, OffModel, OverLimit, Multiplier, Wide, NotShown, Open}
-use Rattle.integer.specs.Tests.{outside}
 use Rattle.tape.specs.Reading.{reading}
 use Rattle.tape.specs.Refusals.{row, figure}
 use Rattle.tape.proofs.Facts.{legal}
 use Rattle.tape.proofs.Offsets.{Carrying, carrying}
-use Rattle.integer.proofs.Tests.{by-test}
 use Rattle.problem.specs.Model.{Problem, Plan, problemOf, planOf, multipliersOf, rounded}
 use Rattle.problem.specs.Dual.{floor, floorOf, ceiling}
+use Rattle.lent.specs.declared.walk.Check.{Check}
+use Rattle.lent.specs.declared.walk.Check.the-variants as check
+use Rattle.lent.specs.Checks.{orElse, first, limits, meets, stateCheck, stepCheck, planCheck, wrongMultipliers, wrongPlanLength, wrongMultipliersLength}
 use Rattle.judge.specs.declared.Judged.{Judged}
 use Rattle.judge.specs.declared.Judged.the-variants as judging
 use Rattle.judge.specs.declared.Shown.{Shown}
 use Rattle.judge.specs.declared.Shown.the-variants as showing
-use Rattle.judge.specs.declared.walk.Check.{Check}
-use Rattle.judge.specs.declared.walk.Check.the-variants as check
-use Rattle.judge.specs.Checks.{orElse, first, limits, meets, stateCheck, stepCheck, planCheck, wrongMultipliers}
-use Rattle.judge.specs.Judging.{wrongPlanLength, wrongMultipliersLength, gapWithin, afterCheck, judgedOn, judgedAfterRead, judged}
+use Rattle.judge.specs.Judging.{gapWithin, afterCheck, judgedOn, judgedAfterRead, judged}
 use Rattle.judge.specs.Judging.{floorAbove, shownOn, shownAfterRead, shown}
+use Rattle.rounds.specs.declared.Verdict.{Verdict}
+use Rattle.rounds.specs.declared.Verdict.the-variants.{Proved, Impossible, Neither}
+use Rattle.rounds.specs.Lent.{lentPlan}
+use Rattle.rounds.specs.Rounds.{verdict}
+use Rattle.rounds.specs.Running.{aheadOf, candidateOf, ascendedOf, Ending, ended, rounds}
+use Rattle.rounds.specs.Running as running
 use Rattle.solver.specs.declared.Solved.{Solved}
 use Rattle.solver.specs.declared.Solved.the-variants as solved
-use Rattle.solver.specs.declared.rounds.Verdict.{Verdict}
-use Rattle.solver.specs.declared.rounds.Verdict.the-variants.{Proved, Impossible, Neither}
-use Rattle.solver.specs.Lent.{lentPlan}
-use Rattle.solver.specs.Rounds.{verdict}
-use Rattle.solver.specs.Solving.{aheadOf, candidateOf, ascendedOf, Ending, ended, rounds, solvingOn, solving, answerOf}
-use Rattle.solver.specs.Solving as solve
+use Rattle.solver.specs.Solving.{solvingOn, endingAfterRead, solving, answerOf}
 
 abbrev pub Small : Refusal → Type 0
 Small why = figure (row why .carries) ≤ 10000
@@ -152,9 +153,9 @@ SmallSolved (solved.Impossible rounds) = rounds ≤ 10000
 SmallSolved (solved.Refused why) = Small why
 
 data SmallEnding : Ending → Type 0 where
-  proved : {rounds : ℕ} {gap : ℤ} {plan y : List ℤ} → rounds ≤ 10000 → SmallEnding (solve.proved rounds gap plan y)
-  impossible : {rounds : ℕ} {y : List ℤ} → rounds ≤ 10000 → SmallEnding (solve.impossible rounds y)
-  refused : {why : Refusal} → Small why → SmallEnding (solve.refused why)
+  proved : {rounds : ℕ} {gap : ℤ} {plan y : List ℤ} → rounds ≤ 10000 → SmallEnding (running.proved rounds gap plan y)
+  impossible : {rounds : ℕ} {y : List ℤ} → rounds ≤ 10000 → SmallEnding (running.impossible rounds y)
+  refused : {why : Refusal} → Small why → SmallEnding (running.refused why)
 
 small-answer : (t : Tape) {e : Ending} → SmallEnding e → SmallSolved (answerOf t e)
 small-answer t (proved h) = h
@@ -182,7 +183,7 @@ small-solved s plan y b = small-answer t (go (reading s .answer) refl (small-rea
     t : Tape
     t = reading s .tape
 
-    go : (a : Answer) → reading s .answer ≡ a → SmallRead a → SmallEnding (solve.endingAfterRead a (solvingOn t plan y))
+    go : (a : Answer) → reading s .answer ≡ a → SmallRead a → SmallEnding (endingAfterRead a (solvingOn t plan y))
     go answer.Accepted e h =
         by-test SmallEnding (wrongPlanLength t plan || wrongMultipliersLength t y) (λ _. refused (omega arith))
         (λ _. small-rounds t (t .rounds) 0 _ _ (legal s b e .rounds .1) (omega arith))

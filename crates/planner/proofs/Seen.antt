@@ -13,11 +13,12 @@ use Rattle.judge.specs.declared.Judged.the-variants as judged
 use Rattle.judge.specs.declared.Shown.{Shown}
 use Rattle.judge.specs.declared.Shown.the-variants as shown
 use Rattle.judge.specs.Demand.{Backed, Founded}
+use Rattle.rounds.specs.Running.{Ending}
 use Rattle.solver.specs.declared.Duties.{Duties}
 use Rattle.solver.specs.declared.Solved.{Solved}
 use Rattle.solver.specs.declared.Solved.the-variants as solved
 use Rattle.solver.specs.Demand.{Upheld, JudgedAgain, RoundsWithin}
-use Rattle.solver.specs.Solving.{Ending, solving, answerOf, planLeft, multipliersLeft}
+use Rattle.solver.specs.Solving.{solving, answerOf, planLeft, multipliersLeft}
 use Rattle.planner.specs.Calls.{codeOf, judgedCode, judgedLeft, shownCode, solvedCode, solvedLeft}
 use Rattle.planner.specs.Demand.{BackedBy, FoundedBy, Says, UpheldBy, AgainBy, RoundsBy}
 use Rattle.planner.proofs.Figures.{number-range}

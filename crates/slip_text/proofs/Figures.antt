@@ -9,19 +9,20 @@ use Rattle.integer.specs.Limited.{limited}
 use Rattle.integer.specs.Operand.{unsigned, signed}
 use Rattle.integer.specs.Quotient.{_÷_}
 use Rattle.integer.specs.Sum.{sum}
-use Rattle.tape.specs.declared.refusal.Refusal.the-variants.{Length}
 use Rattle.integer.specs.Tests.{outside, any}
 use Rattle.commands.specs.Format.{sizeCommand, stateCommand, inputCommand, driftCommand, columnCommand, startCommand, roundsCommand, decoded, wrongSize, beyond, wrongColumn, wrong}
+use Rattle.tape.specs.declared.refusal.Refusal.the-variants.{Length}
 use Rattle.tape.specs.Reading.{obeySize, obeyEntry, lacks, absent, obeyEnd, obey, next, readFrom, reading}
 use Rattle.problem.specs.Model.{stateAt, modelSum, rounded, residual}
 use Rattle.problem.specs.Cost.{total, cost, planCost}
 use Rattle.problem.specs.Dual.{inputSlope, carried, stateSlope, conjugate, tilt, piece, pieces, constant, sizes, floor, larger, most, ceiling}
 use Rattle.problem.proofs.Figures.{bytes, wide, narrow, ample}
+use Rattle.rounds.specs.Lent.{listed, joined}
+use Rattle.rounds.specs.Rounds.{ahead, minimiser, modelStates, dropped, verdict, ascended}
+use Rattle.rounds.specs.Running.{rounds}
 use Rattle.solver.specs.declared.Duties.{Duties}
 use Rattle.solver.specs.declared.Solved.the-variants.{Proved, Refused}
-use Rattle.solver.specs.Lent.{listed, joined}
-use Rattle.solver.specs.Rounds.{ahead, minimiser, modelStates, dropped, verdict, ascended}
-use Rattle.solver.specs.Solving.{duty, rounds, solvingOn, solving}
+use Rattle.solver.specs.Solving.{duty, solvingOn, solving}
 use Rattle.slip_text.specs.Decimal.{text, digits}
 use Rattle.slip_text.specs.Slip.{slip, tapeSlip}
 

@@ -9,34 +9,36 @@ use lib.ListN.{length}
 use lib.IntN.{ℤ, pos, _-ℤ_, negℤ}
 use lib.Signed.{leZ, ltZ}
 use Rattle.integer.specs.Places.{Bounded}
+use Rattle.integer.specs.Tests.{any}
 use Rattle.integer.proofs.Order.{order}
 use Rattle.integer.proofs.Limited.{size-limited}
 use Rattle.integer.proofs.Operand.{Bytes}
+use Rattle.integer.proofs.Tests.{by-test, None, none, in-range, not-less, any-none}
 use Rattle.commands.specs.Ranges.{mostMultiplier}
 use Rattle.tape.specs.declared.Answer.{Answer}
 use Rattle.tape.specs.declared.Answer.the-variants as answer
 use Rattle.tape.specs.declared.Tape.{Tape}
 use Rattle.tape.specs.Reading.{reading}
-use Rattle.integer.proofs.Tests.{by-test, None, none, in-range, not-less, any-none}
 use Rattle.problem.specs.Model.{Problem, Plan, problemOf, planOf, rounded}
 use Rattle.problem.specs.Cost.{planCost, Follows}
 use Rattle.problem.specs.Dual.{floorOf, ceiling}
 use Rattle.problem.proofs.Congruence.{model-cong, cost-cong}
+use Rattle.evaluate.proofs.HeldSteps.{states-before}
+use Rattle.lent.specs.Checks.{wrongPlanLength, wrongMultipliersLength}
+use Rattle.lent.proofs.LentMultipliers.{bounded-multipliers}
 use Rattle.judge.specs.declared.Judged.the-variants.{Gap}
 use Rattle.judge.specs.declared.Shown.the-variants.{Shown}
-use Rattle.integer.specs.Tests.{any}
-use Rattle.judge.specs.Judging.{wrongPlanLength, wrongMultipliersLength, gapWithin, judgedOn, judged, floorAbove, shownOn, shown}
-use Rattle.judge.proofs.Steps.{states-before}
-use Rattle.judge.proofs.Multipliers.{bounded-multipliers}
+use Rattle.judge.specs.Judging.{gapWithin, judgedOn, judged, floorAbove, shownOn, shown}
 use Rattle.judge.proofs.Accepted.{passes, backed, founded}
+use Rattle.rounds.specs.Lent.{lentPlan}
+use Rattle.rounds.specs.Rounds.{ahead, modelStates, candidate, exceeds, dropped, verdict}
+use Rattle.rounds.specs.Running.{aheadOf, candidateOf, Ending, ended, rounds}
+use Rattle.rounds.proofs.Lent.{length-lent-multipliers, lent-multipliers-bounded, length-lent-plan, lent-plan-input, lent-plan-state}
+use Rattle.rounds.proofs.ModelStates.{model-states}
 use Rattle.solver.specs.declared.Solved.{Solved}
 use Rattle.solver.specs.declared.Solved.the-variants.{Proved, Impossible, Refused}
-use Rattle.solver.specs.Lent.{lentPlan}
-use Rattle.solver.specs.Rounds.{ahead, modelStates, candidate, exceeds, dropped, verdict}
-use Rattle.solver.specs.Solving.{aheadOf, candidateOf, Ending, ended, rounds, solvingOn, endingAfterRead, solving, answerOf, planLeft, multipliersLeft}
+use Rattle.solver.specs.Solving.{solvingOn, endingAfterRead, solving, answerOf, planLeft, multipliersLeft}
 use Rattle.solver.specs.Demand.{Upheld, JudgedAgain, RoundsWithin}
-use Rattle.solver.proofs.Lent.{length-lent-multipliers, lent-multipliers-bounded, length-lent-plan, lent-plan-input, lent-plan-state}
-use Rattle.solver.proofs.ModelStates.{model-states}
 
 -- ---- A candidate that is not dropped follows the tape, and so does the plan that is lent
 

@@ -7,22 +7,23 @@ use Rattle.integer.specs.Limited.{limited}
 use Rattle.integer.specs.Operand.{unsigned, signed}
 use Rattle.integer.specs.Quotient.{_÷_}
 use Rattle.integer.specs.Sum.{sum}
-use Rattle.tape.specs.declared.refusal.Refusal.{Refusal}
 use Rattle.integer.specs.Tests.{outside, any}
 use Rattle.commands.specs.Format.{sizeCommand, stateCommand, inputCommand, driftCommand, columnCommand, startCommand, roundsCommand, decoded, wrongSize, beyond, wrongColumn, wrong}
+use Rattle.tape.specs.declared.refusal.Refusal.{Refusal}
 use Rattle.tape.specs.Reading.{obeySize, obeyEntry, lacks, absent, obeyEnd, obey, next, readFrom, reading}
 use Rattle.tape.specs.Refusals.{row, figure}
 use Rattle.problem.specs.Model.{stateAt, modelSum, rounded, residual}
 use Rattle.problem.specs.Cost.{total, cost, planCost}
 use Rattle.problem.specs.Dual.{inputSlope, carried, stateSlope, conjugate, tilt, piece, pieces, constant, sizes, floor, larger, most, ceiling}
 use Rattle.problem.proofs.Figures.{bytes, wide, narrow, ample, table}
+use Rattle.lent.specs.Checks.{first, limits, meets, stateCheck, stepCheck, planCheck}
 use Rattle.judge.specs.declared.Judged.{Judged}
 use Rattle.judge.specs.declared.Judged.the-variants as judgement
-use Rattle.judge.specs.Checks.{first, limits, meets, stateCheck, stepCheck, planCheck}
 use Rattle.judge.specs.Judging.{gapWithin, judgedOn, judged}
-use Rattle.solver.specs.Lent.{listed, joined}
-use Rattle.solver.specs.Rounds.{ahead, minimiser, modelStates, dropped, verdict, ascended}
-use Rattle.solver.specs.Solving.{Ending, proved, impossible, refused, rounds, solvingOn, solving}
+use Rattle.rounds.specs.Lent.{listed, joined}
+use Rattle.rounds.specs.Rounds.{ahead, minimiser, modelStates, dropped, verdict, ascended}
+use Rattle.rounds.specs.Running.{Ending, proved, impossible, refused, rounds}
+use Rattle.solver.specs.Solving.{solvingOn, solving}
 
 -- an answer as one row of numbers: 0 and the result, or a refusal's number and what it carries
 abbrev refusal : Refusal → List ℤ

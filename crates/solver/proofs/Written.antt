@@ -10,8 +10,8 @@ use borrow.Rule.Slice.PartMut.{midOf, putMid, same-len-mid, mid-len}
 use Rattle.integer.specs.Places.{at}
 use Rattle.integer.proofs.Places.{step-room}
 use Rattle.problem.specs.Model.{Plan}
-use Rattle.solver.specs.Lent.{listed, joined, lentPlan}
-use Rattle.solver.proofs.Lent.{length-listed, joined-more, lent-plan-input}
+use Rattle.rounds.specs.Lent.{listed, joined, lentPlan}
+use Rattle.rounds.proofs.Lent.{length-listed, joined-more, lent-plan-input}
 
 -- ---- A part that is lent as `&mut xs[a..e]`, w long, and comes back as zs
 

@@ -1,8 +1,4 @@
-// Solving: the rounds of document 01, and what they leave in the lent slices.
-mod arrays;
-mod candidate;
-mod numbers;
-mod rounds;
+// Solving: the rounds, and what they leave in the lent slices.
 mod write;
 
 ghost use Prim.Native.Nat.{_+_, _*_, _<_, _≤_};
@@ -13,16 +9,16 @@ ghost use Rattle.commands.specs.Ranges.{mostNumber, mostMultiplier};
 ghost use Rattle.tape.specs.Legal.{Legal};
 ghost use Rattle.tape.specs.Reading.{reading};
 ghost use Rattle.evaluate.specs.Padded.{paddedPlan};
-ghost use Rattle.solver.specs.Lent.{lentPlan};
+ghost use Rattle.rounds.specs.Lent.{lentPlan};
+ghost use Rattle.rounds.specs.Held.{endingOf};
 ghost use Rattle.solver.specs.Solving.{solvingOn, solving, duty, firstDuties, answerOf, planLeft, multipliersLeft};
 ghost use Rattle.solver.specs.Demand.{Upheld, JudgedAgain, RoundsWithin};
-ghost use Rattle.solver.specs.Held.{endingOf};
-use crate::rounds::Ended;
-use crate::rounds::Outcome;
-use crate::rounds::run_rounds;
 use crate::write::write_multipliers;
 use crate::write::write_plan;
 use evaluate::terms::terms_of;
+use rounds::Ended;
+use rounds::Outcome;
+use rounds::run_rounds;
 use tape::Answer;
 use tape::Tape;
 use tape::read;

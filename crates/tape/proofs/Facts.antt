@@ -14,29 +14,29 @@ use lib.IntN.{ℤ, pos, negsuc, natAbs}
 use lib.Signed.{ltZ}
 use Rattle.integer.specs.Order.{_≼_}
 use Rattle.integer.specs.Places.{at, Bounded}
+use Rattle.integer.specs.Tests.{outside}
 use Rattle.integer.proofs.Order.{order}
 use Rattle.integer.proofs.Sizes.{size-parts}
 use Rattle.integer.proofs.Operand.{Bytes, unsigned-range}
 use Rattle.integer.proofs.Places.{lt-or-le, zeros}
-use Rattle.tape.specs.declared.Answer.the-variants as answer
-use Rattle.tape.specs.declared.Reading.{Reading}
-use Rattle.tape.specs.declared.Tape.{Tape}
+use Rattle.integer.proofs.Tests.{by-test, none, in-range, in-size}
 use Rattle.commands.specs.declared.Command.{Command}
 use Rattle.commands.specs.declared.Command.the-variants as command
 use Rattle.commands.specs.declared.Entry.{Entry}
 use Rattle.commands.specs.declared.Entry.the-variants.{State, Input, Drift, Column, Start, Rounds}
+use Rattle.commands.specs.Format.{whole, decoded, sizeCommand, stateCommand, inputCommand, driftCommand, columnCommand, startCommand, roundsCommand}
+use Rattle.commands.specs.Format.{wrongSize, beyond, wrongColumn, wrong, placeOf}
+use Rattle.tape.specs.declared.Answer.the-variants as answer
+use Rattle.tape.specs.declared.Reading.{Reading}
+use Rattle.tape.specs.declared.Tape.{Tape}
 use Rattle.tape.specs.declared.reader.Reader.{Reader}
 use Rattle.tape.specs.declared.reader.Verdict.{Verdict}
 use Rattle.tape.specs.declared.reader.Verdict.the-variants.{Going, Ended, Refused}
 use Rattle.tape.specs.declared.refusal.Refusal.{Refusal}
 use Rattle.tape.specs.declared.refusal.Refusal.the-variants.{Cut}
 use Rattle.tape.specs.Tape.{blank, withSize, with}
-use Rattle.commands.specs.Format.{whole, decoded, sizeCommand, stateCommand, inputCommand, driftCommand, columnCommand, startCommand, roundsCommand}
-use Rattle.integer.specs.Tests.{outside}
-use Rattle.commands.specs.Format.{wrongSize, beyond, wrongColumn, wrong, placeOf}
 use Rattle.tape.specs.Legal.{Legal}
 use Rattle.tape.specs.Reading.{marked, sized, lacks, absent, next, refusedTape, outcome, readFrom, opened, reading}
-use Rattle.integer.proofs.Tests.{by-test, none, in-range, in-size}
 use Rattle.tape.proofs.Steps.{next-leads}
 
 -- ---- Command 50: no test limits `gain` from above, nor `wanted`; the widths of their operands do

@@ -7,21 +7,21 @@ use native.Mathlib.Omega.{arith}
 use borrow.Author.Tests.{ltb-false}
 use lib.Dec.{ltb}
 use lib.ListN.{length, set, length-set}
+use Rattle.integer.proofs.Tests.{none}
+use Rattle.commands.specs.declared.Entry.{Entry}
+use Rattle.commands.specs.declared.Entry.the-variants.{State, Input, Drift, Column, Start, Rounds}
+use Rattle.commands.specs.Format.{bytesOf, wrongSize, beyond, placeOf}
+use Rattle.commands.proofs.Tests.{Inside, inside}
 use Rattle.tape.specs.declared.Answer.{Answer}
 use Rattle.tape.specs.declared.Answer.the-variants as answer
 use Rattle.tape.specs.declared.Reading.{Reading}
 use Rattle.tape.specs.declared.Tape.{Tape}
-use Rattle.commands.specs.declared.Entry.{Entry}
-use Rattle.commands.specs.declared.Entry.the-variants.{State, Input, Drift, Column, Start, Rounds}
 use Rattle.tape.specs.declared.reader.Reader.{Reader}
 use Rattle.tape.specs.declared.reader.Verdict.{Verdict}
 use Rattle.tape.specs.declared.reader.Verdict.the-variants.{Going, Ended, Refused}
 use Rattle.tape.specs.Tape.{with}
-use Rattle.commands.specs.Format.{bytesOf, wrongSize, beyond, placeOf}
 use Rattle.tape.specs.Reading.{marked, next, outcome, readFrom, opened, reading}
 use Rattle.tape.specs.Refusals.{row, figure}
-use Rattle.integer.proofs.Tests.{none}
-use Rattle.commands.proofs.Tests.{Inside, inside}
 use Rattle.tape.proofs.Steps.{Small, small-next, next-leads}
 
 -- ---- A command's place and its bytes

@@ -10,20 +10,20 @@ use lib.Dec.{ltb}
 use lib.ListN.{length, set}
 use borrow.Author.Tests.{ltb-false}
 use Rattle.integer.proofs.Places.{lt-or-le}
-use Rattle.tape.specs.declared.Tape.{Tape}
+use Rattle.integer.proofs.Tests.{by-test, none}
 use Rattle.commands.specs.declared.Command.{Command}
 use Rattle.commands.specs.declared.Command.the-variants as command
 use Rattle.commands.specs.declared.Entry.{Entry}
 use Rattle.commands.specs.declared.Entry.the-variants.{State, Input, Drift, Column, Start, Rounds}
+use Rattle.commands.specs.Format.{decoded, bytesOf, wrongSize, beyond, wrong, placeOf}
+use Rattle.tape.specs.declared.Tape.{Tape}
 use Rattle.tape.specs.declared.reader.Reader.{Reader}
 use Rattle.tape.specs.declared.reader.Verdict.{Verdict}
 use Rattle.tape.specs.declared.reader.Verdict.the-variants.{Going, Ended}
 use Rattle.tape.specs.declared.refusal.Refusal.{Refusal}
 use Rattle.tape.specs.Refusals.{row, figure}
 use Rattle.tape.specs.Tape.{withSize, with}
-use Rattle.commands.specs.Format.{decoded, bytesOf, wrongSize, beyond, wrong, placeOf}
 use Rattle.tape.specs.Reading.{refuse, refuseWhen, marked, sized, lacks, absent, obeySize, obeyEntry, obeyEnd, obey, next, outcome, readFrom}
-use Rattle.integer.proofs.Tests.{by-test, none}
 
 -- ---- Places without a mark
 

@@ -5,8 +5,8 @@ use mathlib.Core.Logic.{_⊎_}
 use lib.IntN.{pos}
 use Rattle.integer.specs.Order.{_≼_}
 use Rattle.integer.specs.Places.{at, Bounded}
-use Rattle.tape.specs.declared.Tape.{Tape}
 use Rattle.commands.specs.Ranges.{mostEntry, mostDrift, mostNumber, mostWeight, mostGain, mostRounds, mostWanted}
+use Rattle.tape.specs.declared.Tape.{Tape}
 
 pub record Legal (t : Tape) : Type 0 where
   pub states : (1 ≤ t .n) × (t .n ≤ 6)

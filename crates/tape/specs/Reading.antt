@@ -4,19 +4,19 @@ use mathlib.Core.Bool.{Bool, true, false, not, cond, _||_}
 use mathlib.Core.List.{List}
 use lib.Dec.{ltb}
 use lib.ListN.{length, set, getD, replicate}
-use Rattle.tape.specs.declared.Answer.the-variants as answer
-use Rattle.tape.specs.declared.Reading.{Reading}
-use Rattle.tape.specs.declared.Tape.{Tape}
 use Rattle.commands.specs.declared.Command.{Command}
 use Rattle.commands.specs.declared.Command.the-variants as command
 use Rattle.commands.specs.declared.Entry.{Entry}
+use Rattle.commands.specs.Format.{decoded, bytesOf, wrongSize, beyond, wrong, placeOf}
+use Rattle.tape.specs.declared.Answer.the-variants as answer
+use Rattle.tape.specs.declared.Reading.{Reading}
+use Rattle.tape.specs.declared.Tape.{Tape}
 use Rattle.tape.specs.declared.reader.Reader.{Reader}
 use Rattle.tape.specs.declared.reader.Verdict.{Verdict}
 use Rattle.tape.specs.declared.reader.Verdict.the-variants.{Going, Ended, Refused}
 use Rattle.tape.specs.declared.refusal.Refusal.{Refusal}
 use Rattle.tape.specs.declared.refusal.Refusal.the-variants.{Cut, Unknown, Misplaced, NoSuchPlace, OutOfRange, Twice, Absent, Overrun}
 use Rattle.tape.specs.Tape.{blank, withSize, with}
-use Rattle.commands.specs.Format.{decoded, bytesOf, wrongSize, beyond, wrong, placeOf}
 
 abbrev pub refuse : Refusal → Reader → Reader
 refuse why q = record { at = q .at; verdict = Refused why; tape = q .tape; given = q .given }

@@ -1,8 +1,8 @@
 use mathlib.Core.Path.{refl}
 use borrow.Author.Tests.{le-leb, lt-leb}
 use borrow.Author.Needs.{needs}
-use Rattle.commands.specs.Format.{beyond}
 use Rattle.integer.proofs.Tests.{or-yes, or-no}
+use Rattle.commands.specs.Format.{beyond}
 use Rattle.commands.proofs.is_beyond.Statement.{statement}
 use Rattle.commands.proofs.is_beyond.Tie as tie
 

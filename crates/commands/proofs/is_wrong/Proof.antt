@@ -5,8 +5,8 @@ use lib.IntN.{ℤ, pos}
 use lib.Signed.{ltZ}
 use borrow.Author.Needs.{needs}
 use Rattle.integer.proofs.Sizes.{called}
-use Rattle.commands.specs.Format.{wrong}
 use Rattle.integer.proofs.Tests.{or-yes, or-no, or-met}
+use Rattle.commands.specs.Format.{wrong}
 use Rattle.commands.proofs.is_wrong.Statement.{statement}
 use Rattle.commands.proofs.is_wrong.Tie as tie
 

@@ -5,8 +5,8 @@ use lib.Signed.{ltZ}
 use mir.Facts.{toZ-ofZ}
 use borrow.Author.Needs.{needs}
 use Rattle.integer.specs.Tests.{outside}
-use Rattle.commands.specs.Format.{wrongColumn}
 use Rattle.integer.proofs.Tests.{or-yes, or-no, or-met}
+use Rattle.commands.specs.Format.{wrongColumn}
 use Rattle.commands.proofs.is_wrong_column.Statement.{statement}
 use Rattle.commands.proofs.is_wrong_column.Tie as tie
 

@@ -2,8 +2,8 @@ use mathlib.Core.Path.{_≡_, refl}
 use mathlib.Core.Bool.{_||_}
 use lib.Dec.{ltb}
 use borrow.Author.Tests.{lt-ltb, le-ltb}
-use Rattle.commands.specs.Format.{wrongSize}
 use Rattle.integer.proofs.Tests.{or-yes, or-no, or-met}
+use Rattle.commands.specs.Format.{wrongSize}
 use Rattle.commands.proofs.is_wrong_size.Statement.{statement}
 use Rattle.commands.proofs.is_wrong_size.Tie as tie
 

@@ -8,7 +8,7 @@ use mir.Facts.{toZ-ofZ}
 use Rattle.integer.specs.Places.{at, Stretch}
 use Rattle.integer.proofs.Sizes.{called, bounded-fits}
 use Rattle.integer.proofs.Places.{stretch-none, fill-store, fill-at}
-use Rattle.solver.proofs.Lent.{listed-whole}
+use Rattle.rounds.proofs.Lent.{listed-whole}
 use Rattle.solver.proofs.write.write_numbers.Statement.{statement}
 use Rattle.solver.proofs.write.write_numbers.Tie as tie
 

@@ -1,7 +1,7 @@
 use mathlib.Core.Path.{refl, _∙_}
 use borrow.Author.Needs.{needs}
-use Rattle.tape.specs.Reading.{absent, lacks}
 use Rattle.integer.proofs.Tests.{or-yes, or-no, or-met}
+use Rattle.tape.specs.Reading.{absent, lacks}
 use Rattle.tape.proofs.reader.is_absent.Statement.{statement}
 use Rattle.tape.proofs.reader.is_absent.Tie as tie
 

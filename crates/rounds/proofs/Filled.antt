@@ -1,0 +1,148 @@
+-- What the array functions of a round fill: padded arrays that hold the numbers of its steps.
+use Prim.Native.Nat.{ℕ, _+_, _*_, _<_, _≤_}
+use mathlib.Core.Path.{_≡_, refl, _∙_, ap, ap₂}
+use mathlib.Core.Logic.{inl, inr, ⊎-elim}
+use mathlib.Core.List.{List}
+use native.Mathlib.Omega.{arith}
+use lib.ListN.{replicate, length-replicate}
+use lib.IntN.{ℤ, pos, natAbs, _+ℤ_, _-ℤ_, _*ℤ_, zero-*ℤ}
+use Rattle.integer.specs.Places.{at, Bounded, Stretch, Steps}
+use Rattle.integer.proofs.Places.{lt-or-le, zeros, fill-at}
+use Rattle.integer.proofs.Sum.{sum-zero}
+use Rattle.commands.specs.Ranges.{mostNumber, mostMultiplier}
+use Rattle.tape.specs.declared.Tape.{Tape}
+use Rattle.tape.specs.Legal.{Legal}
+use Rattle.problem.specs.Model.{Term, problemOf, stateAt, modelSum, residual}
+use Rattle.problem.specs.Dual.{inputSlope, stateSlope}
+use Rattle.evaluate.specs.Padded.{stateMatrix, inputMatrix, padded, paddedPlan, byPlace, termAt}
+use Rattle.evaluate.specs.Terms.{blankTerm, TermsOf}
+use Rattle.evaluate.specs.Held.{BlankMultipliers, BlankPlan, HeldMultipliers, HeldPlan}
+use Rattle.evaluate.proofs.LinearSizes.{residualAt}
+use Rattle.evaluate.proofs.Padding.{model-padded, inputSlope-padded, stateSlope-padded}
+use Rattle.evaluate.proofs.Places.{place-input, place-state}
+use Rattle.rounds.specs.Rounds.{ahead, minimiser, minimisers, ascended}
+use Rattle.rounds.specs.Held.{InputsWithin}
+use Rattle.rounds.proofs.Blank.{ahead-zero, ascended-zero, minimiser-blank, size-ahead, size-ascended, size-minimiser, minimiser-within}
+
+-- ---- Places filled from the front, with zeros behind them
+
+module _ (c : ℕ) {w : ℕ} {f : ℕ → ℤ} {l : List ℤ} (fill : Stretch 0 w f (replicate c (pos 0)) l) where
+  behind : (p : ℕ) → w ≤ p → at l p ≡ pos 0
+  behind p h = fill .outside p (inr (omega arith)) ∙ zeros c p
+
+  -- a fact on 0 and on every number that is filled in holds of every place
+  everywhere : (P : ℤ → Type 0) → P (pos 0) → (p : ℕ) → (p < w → P (f p)) → P (at l p)
+  everywhere P none p some = ⊎-elim (λ h. rw (fill-at fill p h) (some h)) (λ h. rw (behind p h) none) (lt-or-le p w)
+
+pub zeros-bounded : {B : ℕ} (c : ℕ) → Bounded B (replicate c (pos 0))
+zeros-bounded c = record { each = λ p. rw (zeros c p) (omega arith) }
+
+-- ---- Multipliers
+
+pub held-multipliers : {n N : ℕ} {f : ℕ → ℤ} {l : List ℤ} → n ≤ 6 → Stretch 0 (6 * N) f (replicate 72 (pos 0)) l →
+    ((p : ℕ) → natAbs (f p) ≤ mostMultiplier) → ((k i : ℕ) → k < N → n ≤ i → i < 6 → f (6 * k + i) ≡ pos 0) → HeldMultipliers n N (λ k i. f (6 * k + i)) l
+held-multipliers {n} {N} {f} {l} few fill size blank = record {
+  same = λ k i h m. fill-at fill (6 * k + i) (omega arith);
+  blank = record { each = λ k i h m. everywhere 72 fill (λ z. z ≡ pos 0) refl (6 * k + i) (λ r. blank k i (omega arith) h m) };
+  bounded = record { each = λ p. everywhere 72 fill (λ z. natAbs z ≤ mostMultiplier) (omega arith) p (λ _. size p) };
+}
+
+-- step 1
+pub held-ahead : {n N : ℕ} (k : ℕ) {y previous l : List ℤ} → n ≤ 6 → BlankMultipliers n y → BlankMultipliers n previous →
+    Stretch 0 (6 * N) (λ p. ahead (pos k) (at y p) (at previous p)) (replicate 72 (pos 0)) l →
+    HeldMultipliers n N (λ s i. ahead (pos k) (padded y s i) (padded previous s i)) l
+held-ahead k {y} {previous} few hy hp fill =
+    held-multipliers few fill (λ p. size-ahead (pos k) (at y p) (at previous p))
+    (λ s i _ h l. ap₂ (ahead (pos k)) (hy .each s i h l) (hp .each s i h l) ∙ ahead-zero k)
+
+-- ---- Step 2
+
+module _ (t : Tape) (legal : Legal t) {penalty low high reference : List ℤ} (terms : TermsOf t penalty low high reference)
+    {y s : List ℤ} (blank : BlankMultipliers (t .n) y)
+    (slopes : Steps 10 (t .horizon) (byPlace (inputSlope 6 (inputMatrix (t .b)) (padded y)) (stateSlope 6 (t .horizon) (stateMatrix (t .a)) (padded y))) s) where
+  abbrev number : ℕ → ℤ
+  number p = minimiser (termAt penalty low high reference p) (at s p)
+
+  input-number : (k j : ℕ) → k < t .horizon → j < t .m → number (10 * k + j) ≡ minimisers (problemOf t) (padded y) .u k j
+  input-number k j h m =
+      let r = legal .inputs .1 in
+      let e = legal .steps .1 in
+      ap₂ minimiser (terms .input k j (omega arith) m)
+      (slopes .each k j h (omega arith) ∙ place-input _ _ k j (omega arith)
+      ∙ inputSlope-padded t legal penalty low high reference terms (padded y) (blank .each) k j)
+
+  state-number : (k i : ℕ) → k < t .horizon → i < t .n → number (10 * k + (4 + i)) ≡ minimisers (problemOf t) (padded y) .x k i
+  state-number k i h m =
+      let r = legal .states .1 in
+      let e = legal .steps .1 in
+      ap₂ minimiser (terms .state k i (omega arith) m)
+      (slopes .each k (4 + i) h (omega arith) ∙ place-state _ _ k i
+      ∙ stateSlope-padded t legal penalty low high reference terms (padded y) (blank .each) k i)
+
+  pub held-numbers : {l : List ℤ} → Stretch 0 (10 * t .horizon) number (replicate 120 (pos 0)) l →
+      HeldPlan (t .n) (t .m) (t .horizon) (minimisers (problemOf t) (padded y)) l
+  held-numbers {l} fill =
+      let r = legal .inputs .1 in
+      let d = legal .states .1 in
+      let e = legal .steps .1 in
+      record {
+        input = λ k j h m. fill-at fill (10 * k + j) (omega arith) ∙ input-number k j h m;
+        state = λ k i h m. fill-at fill (10 * k + (4 + i)) (omega arith) ∙ state-number k i h m;
+        blank = record {
+          input = λ k j h m o. none (10 * k + j) (terms .noInput k j h m o);
+          state = λ k i h m o. none (10 * k + (4 + i)) (terms .noState k i h m o);
+        };
+        bounded = record {
+          each = λ p.
+              everywhere 120 fill (λ z. natAbs z ≤ mostNumber) (omega arith) p
+              (λ h. let g = terms .tables .each p (omega arith) in size-minimiser (termAt penalty low high reference p) (at s p) (g .low) (g .high));
+        };
+        long = fill .same ∙ length-replicate 120 (pos 0);
+      }
+    where
+      none : (p : ℕ) → termAt penalty low high reference p ≡ blankTerm → at l p ≡ pos 0
+      none p e = everywhere 120 fill (λ z. z ≡ pos 0) refl p (λ _. ap (λ (a : Term). minimiser a (at s p)) e ∙ minimiser-blank (at s p))
+
+-- the inputs of step 2 lie within their limits
+pub inputs-within : {t : Tape} (y : ℕ → ℕ → ℤ) {l : List ℤ} → Legal t → HeldPlan (t .n) (t .m) (t .horizon) (minimisers (problemOf t) y) l →
+    InputsWithin (problemOf t) (paddedPlan l .u)
+inputs-within {t} y legal held = record {
+  each = λ k j h m.
+      rw (held .input k j h m)
+      (minimiser-within (problemOf t .inputTerm k j) (inputSlope (t .n) (problemOf t .B) y k j) (legal .ordered (t .n + j)));
+}
+
+-- ---- Step 4
+
+module _ (t : Tape) (legal : Legal t) {v : List ℤ} (blank : BlankPlan (t .n) (t .m) v) where
+  abbrev residualOf : ℕ → ℕ → ℤ
+  residualOf = residualAt (t .a) (t .b) (t .drift) (t .start) v
+
+  residual-is : (k i : ℕ) → residualOf k i ≡ residual (problemOf t) (paddedPlan v) k i
+  unfolding residual
+  residual-is k i = ap (λ (z : ℤ). z -ℤ pos 4096 *ℤ paddedPlan v .x k i) (model-padded t legal _ _ i)
+
+  -- a state beyond the sizes has residual 0: its row of A and of B is 0, and so is its drift
+  residual-none : (k i : ℕ) → k < 12 → t .n ≤ i → i < 6 → residualOf k i ≡ pos 0
+  unfolding modelSum
+  residual-none k i e h l =
+      ap₂ (λ (z x : ℤ). z -ℤ pos 4096 *ℤ x)
+      (ap₂ (λ (p q : ℤ). p +ℤ q +ℤ at (t .drift) i)
+      (sum-zero 6 _ (λ j m. rw (legal .blankA i j m (inl h)) (zero-*ℤ (stateAt (at (t .start)) (paddedPlan v .x) k j))))
+      (sum-zero 4 _ (λ j m. rw (legal .blankB i j m (inl h)) (zero-*ℤ (paddedPlan v .u k j))))
+      ∙ ap (λ (w : ℤ). pos 0 +ℤ pos 0 +ℤ w) (legal .blankDrift i h)) (blank .state k i e h l)
+
+  -- g is the step size as the code has it
+  pub held-ascended : {g : ℤ} {ahead e l : List ℤ} → BlankMultipliers (t .n) ahead → Steps 6 (t .horizon) residualOf e → g ≡ t .gain →
+      Stretch 0 (6 * t .horizon) (λ p. ascended g (at ahead p) (at e p)) (replicate 72 (pos 0)) l →
+      HeldMultipliers (t .n) (t .horizon) (λ k i. ascended (t .gain) (padded ahead k i) (residual (problemOf t) (paddedPlan v) k i)) l
+  held-ascended {ahead = ahead} {e = e} none steps is fill =
+      let d = legal .states .1 in
+      let h = held-multipliers d (rw is at fill) (λ p. size-ascended (t .gain) (at ahead p) (at e p))
+      (λ k i a m o. let n = legal .steps .1 in
+      ap₂ (ascended (t .gain)) (none .each k i m o) (steps .each k i a o ∙ residual-none k i (omega arith) m o) ∙ ascended-zero (t .gain)) in
+      record {
+        same = λ k i a b. h .same k i a b ∙ ap (ascended (t .gain) (padded ahead k i)) (steps .each k i a (omega arith) ∙ residual-is k i);
+        blank = h .blank;
+        bounded = h .bounded;
+      }

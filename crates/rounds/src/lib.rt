@@ -1,0 +1,232 @@
+// The rounds of a solve: document 01's four steps.
+mod arrays;
+mod candidate;
+mod numbers;
+
+ghost use Prim.Native.Nat.{_≤_};
+ghost use mathlib.Core.Path.{_≡_};
+ghost use mathlib.Core.Bool.{cond};
+ghost use lib.ListN.{replicate};
+ghost use lib.IntN.{pos, natAbs};
+ghost use lib.Signed.{ltZ};
+ghost use Rattle.integer.specs.Places.{Bounded};
+ghost use Rattle.commands.specs.Ranges.{mostNumber, mostMultiplier};
+ghost use Rattle.tape.specs.Legal.{Legal};
+ghost use Rattle.problem.specs.Model.{problemOf, residual};
+ghost use Rattle.problem.specs.Dual.{floor, ceiling};
+ghost use Rattle.evaluate.specs.Padded.{padded, paddedPlan};
+ghost use Rattle.evaluate.specs.Terms.{TermsOf};
+ghost use Rattle.evaluate.specs.Held.{BlankPlan, BlankMultipliers, HeldPlan, HeldMultipliers};
+ghost use Rattle.rounds.specs.declared.Verdict.the-variants as verdicts;
+ghost use Rattle.rounds.specs.Rounds.{minimisers, candidate, verdict, ascended};
+ghost use Rattle.rounds.specs.Running.{rounds, start};
+ghost use Rattle.rounds.specs.Held.{InputsWithin, HeldWhenProved, endingOf};
+use crate::arrays::minimisers;
+use crate::arrays::multipliers_ahead;
+use crate::arrays::multipliers_ascended;
+use crate::candidate::candidate_of;
+use evaluate::cost::ceiling_of;
+use evaluate::cost::plan_cost;
+use evaluate::dual::offset;
+use evaluate::dual::pieces;
+use evaluate::dual::slopes;
+use evaluate::model::residuals;
+use evaluate::terms::Terms;
+use tape::Tape;
+
+// The multipliers y of a round, and those before them.
+pub struct RoundState {
+    pub current: [i64; 72],
+    pub previous: [i64; 72],
+}
+
+impl RoundState {
+    fn start() -> RoundState
+        ensures { λ r. ⌜ (r .current ≡ replicate 72 (pos 0)) × (r .previous ≡ replicate 72 (pos 0)) ⌝ }
+    {
+        let zeros = [0i64; 72];
+        RoundState {
+            current: zeros,
+            previous: zeros,
+        }
+    }
+
+    // Step 4: the next y from y~ and the residuals of the numbers v of step 2.
+    fn next(self, t: Tape, ahead: [i64; 72], v: [i64; 120]) -> RoundState
+        requires { ⌜ Legal t × BlankMultipliers (t .n) ahead × Bounded mostMultiplier ahead × BlankPlan (t .n) (t .m) v × Bounded mostNumber v ⌝ }
+        ensures { λ r. ⌜ r .previous ≡ self .current ⌝ }
+        ensures { λ r. ⌜ HeldMultipliers (t .n) (t .horizon) (λ k i. ascended (t .gain) (padded ahead k i) (residual (problemOf t) (paddedPlan v) k i)) (r .current) ⌝ }
+    {
+        let horizon = t.horizon;
+        let gain = t.gain;
+        let current = self.current;
+        let e = residuals(&t.a, &t.b, &t.drift, &t.start, &v, horizon);
+        RoundState {
+            current: multipliers_ascended(&ahead, &e, gain, horizon),
+            previous: current,
+        }
+    }
+}
+
+// The dual function at multipliers: its minimisers, which are the numbers of step 2, and its value,
+// the floor.
+pub struct Dual {
+    pub numbers: [i64; 120],
+    pub floor: i64,
+}
+
+fn dual_at(t: Tape, terms: Terms, y: [i64; 72]) -> Dual
+    requires { ⌜ Legal t × TermsOf t (terms .penalty) (terms .low) (terms .high) (terms .reference) ⌝ }
+    requires { ⌜ BlankMultipliers (t .n) y × Bounded mostMultiplier y ⌝ }
+    ensures { λ r. ⌜ HeldPlan (t .n) (t .m) (t .horizon) (minimisers (problemOf t) (padded y)) (r .numbers) ⌝ }
+    ensures { λ r. ⌜ (r .floor ≡ floor (problemOf t) (padded y)) × (natAbs (r .floor) ≤ 4541889529384009728) ⌝ }
+{
+    let horizon = t.horizon;
+    let s = slopes(&t.a, &t.b, &y, horizon);
+    let numbers = minimisers(
+        &terms.penalty,
+        &terms.low,
+        &terms.high,
+        &terms.reference,
+        &s,
+        horizon,
+    );
+    let least = pieces(
+        &terms.penalty,
+        &terms.low,
+        &terms.high,
+        &terms.reference,
+        &s,
+        horizon,
+    );
+    let rest = offset(&t.a, &t.drift, &t.start, &y, horizon);
+    Dual {
+        numbers: numbers,
+        floor: least + rest,
+    }
+}
+
+pub enum Verdict {
+    Proved(i64),
+    Impossible,
+    Neither,
+}
+
+// The verdict on a floor with no accepted plan.
+fn without_plan(highest: i64, floor: i64) -> Verdict
+    ensures { λ r. ⌜ r ≡ cond (ltZ highest floor) verdicts.Impossible verdicts.Neither ⌝ }
+{
+    if highest < floor {
+        return Verdict::Impossible;
+    }
+    Verdict::Neither
+}
+
+// The verdict, and the candidate where it is 'proved'.
+pub struct Weighed {
+    pub verdict: Verdict,
+    pub plan: [i64; 120],
+}
+
+// Step 3, from the ceiling, the floor and the numbers v of step 2.
+fn weigh(t: Tape, terms: Terms, highest: i64, floor: i64, v: [i64; 120]) -> Weighed
+    requires { ⌜ Legal t × TermsOf t (terms .penalty) (terms .low) (terms .high) (terms .reference) ⌝ }
+    requires { ⌜ (highest ≡ ceiling (problemOf t)) × (natAbs floor ≤ 4541889529384009728) × InputsWithin (problemOf t) (paddedPlan v .u) × BlankPlan (t .n) (t .m) v × Bounded mostNumber v ⌝ }
+    ensures { λ r. ⌜ r .verdict ≡ verdict t (candidate (problemOf t) (paddedPlan v .u)) floor ⌝ }
+    ensures { λ r. ⌜ HeldWhenProved (r .verdict) t (candidate (problemOf t) (paddedPlan v .u)) (r .plan) × Bounded mostNumber (r .plan) ⌝ }
+{
+    let horizon = t.horizon;
+    let candidate = candidate_of(t, terms, v);
+    let plan = candidate.plan;
+    if candidate.dropped {
+        return Weighed {
+            verdict: without_plan(highest, floor),
+            plan: plan,
+        };
+    }
+    let cost = plan_cost(
+        &terms.penalty,
+        &terms.low,
+        &terms.high,
+        &terms.reference,
+        &plan,
+        horizon,
+    );
+    let gap = cost - floor;
+    if gap <= t.wanted {
+        return Weighed {
+            verdict: Verdict::Proved(gap),
+            plan: plan,
+        };
+    }
+    Weighed {
+        verdict: without_plan(highest, floor),
+        plan: plan,
+    }
+}
+
+// How the rounds ended, with the rounds entered, the answering one included.
+pub enum Ended {
+    Proved(usize, i64),
+    Impossible(usize),
+    Open,
+}
+
+// The plan where the end is 'proved', and the multipliers where it is 'proved' or 'impossible'.
+pub struct Outcome {
+    pub ended: Ended,
+    pub plan: [i64; 120],
+    pub multipliers: [i64; 72],
+}
+
+pub fn run_rounds(t: Tape, terms: Terms) -> Outcome
+    requires { ⌜ Legal t × TermsOf t (terms .penalty) (terms .low) (terms .high) (terms .reference) ⌝ }
+    ensures { λ r. ⌜ rounds t (t .rounds) 0 (start t) (start t) ≡ endingOf t (r .ended) (r .plan) (r .multipliers) ⌝ }
+    ensures { λ r. ⌜ Bounded mostNumber (r .plan) × Bounded mostMultiplier (r .multipliers) ⌝ }
+{
+    let horizon = t.horizon;
+    let limit = t.rounds;
+    let highest = ceiling_of(
+        &terms.penalty,
+        &terms.low,
+        &terms.high,
+        &terms.reference,
+        horizon,
+    );
+    let mut state = RoundState::start();
+    let mut k: usize = 0;
+    while k < limit {
+        let ahead = multipliers_ahead(&state.current, &state.previous, k as i64, horizon);
+        let dual = dual_at(t, terms, ahead);
+        let v = dual.numbers;
+        let weighed = weigh(t, terms, highest, dual.floor, v);
+        let plan = weighed.plan;
+        let verdict = weighed.verdict;
+        k += 1;
+        match verdict {
+            Verdict::Proved(gap) => {
+                return Outcome {
+                    ended: Ended::Proved(k, gap),
+                    plan: plan,
+                    multipliers: ahead,
+                };
+            }
+            Verdict::Impossible => {
+                return Outcome {
+                    ended: Ended::Impossible(k),
+                    plan: plan,
+                    multipliers: ahead,
+                };
+            }
+            Verdict::Neither => {}
+        }
+        state = state.next(t, ahead, v);
+    }
+    let plan = [0i64; 120];
+    let multipliers = [0i64; 72];
+    Outcome {
+        ended: Ended::Open,
+        plan: plan,
+        multipliers: multipliers,
+    }
+}

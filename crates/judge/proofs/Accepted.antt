@@ -81,18 +81,18 @@ module _ (t : Tape) (ok : Legal t) (plan y : List ℤ) where
   abbrev gap : ℤ
   gap = planCost (problemOf t) v -ℤ floor (problemOf t) (multipliersOf (t .n) y)
 
-  backed-check : (c : Check) → planCheck (problemOf t) v ≡ c → length plan ≡ t .horizon * (t .n + t .m) → Backed (afterCheck c (gapWithin t gap)) t plan
+  backed-check : (c : Check) → planCheck (problemOf t) v ≡ c → length plan ≡ t .horizon * (t .n + t .m) → Backed (afterCheck c (gapWithin t gap)) t plan y
   unfolding gapWithin
   backed-check Passed e l =
-      by-test (λ j. Backed j t plan) (ltZ (t .wanted) gap) (λ _. tt)
-      (λ _. record { accepted = record { long = l; follows = follows (problemOf t) v e }; bound = λ rival r. gap-below-rivals t ok plan y rival r })
+      by-test (λ j. Backed j t plan y) (ltZ (t .wanted) gap) (λ _. tt)
+      (λ _. record { itself = record { long = l; follows = follows (problemOf t) v e }; reported = refl; bound = λ rival r. gap-below-rivals t ok plan y rival r })
   backed-check (Refused why) e l = tt
 
-  backed-on : Backed (judgedOn t plan y) t plan
+  backed-on : Backed (judgedOn t plan y) t plan y
   unfolding judgedOn
   backed-on =
-      by-test (λ j. Backed j t plan) (wrongPlanLength t plan || wrongMultipliersLength t y) (λ _. tt)
-      (λ e. by-test (λ j. Backed j t plan) (wrongMultipliers y) (λ _. tt)
+      by-test (λ j. Backed j t plan y) (wrongPlanLength t plan || wrongMultipliersLength t y) (λ _. tt)
+      (λ e. by-test (λ j. Backed j t plan y) (wrongMultipliers y) (λ _. tt)
       (λ _. backed-check (planCheck (problemOf t) v) refl
       (eqb-true _ _ (not-false _ (none (wrongPlanLength t plan) (wrongMultipliersLength t y ∷ []) e .0)))))
 
@@ -108,11 +108,11 @@ founded-on t ok y =
 
 -- ---- The answers of the calls
 
-pub backed : (s : List ℕ) (plan y : List ℤ) → Bytes s → Backed (judging.judged s plan y) (reading s .tape) plan
+pub backed : (s : List ℕ) (plan y : List ℤ) → Bytes s → Backed (judging.judged s plan y) (reading s .tape) plan y
 unfolding judging.judged
 backed s plan y b = go (reading s .answer) refl
   where
-    go : (a : Answer) → reading s .answer ≡ a → Backed (judgedAfterRead a (judgedOn (reading s .tape) plan y)) (reading s .tape) plan
+    go : (a : Answer) → reading s .answer ≡ a → Backed (judgedAfterRead a (judgedOn (reading s .tape) plan y)) (reading s .tape) plan y
     go answer.Accepted e = backed-on (reading s .tape) (legal s b e) plan y
     go (answer.Refused why) e = tt
 
@@ -126,7 +126,7 @@ founded s y b = go (reading s .answer) refl
 
 -- both clauses of a judge's promise from the first
 pub plan-promise : (s : List ℕ) (plan y : List ℤ) {r : Judged} → Bytes s → r ≡ judging.judged s plan y →
-    (r ≡ judging.judged s plan y) × Backed r (reading s .tape) plan
+    (r ≡ judging.judged s plan y) × Backed r (reading s .tape) plan y
 plan-promise s plan y b e = (e, rw e (backed s plan y b))
 
 pub multipliers-promise : (s : List ℕ) (y : List ℤ) {r : Shown} → Bytes s → r ≡ judging.shown s y →

@@ -40,7 +40,7 @@ pub enum Shown {
 // Judges a plan with multipliers: the gap, or the first refusal.
 pub fn judge_plan(tape: &[u8], plan: &[i32], multipliers: &[i32]) -> Judged
     ensures { λ r. ⌜ r ≡ judged (now (tape .entry)) (now (plan .entry)) (now (multipliers .entry)) ⌝ }
-    ensures { λ r. ⌜ Backed r (reading (now (tape .entry)) .tape) (now (plan .entry)) ⌝ }
+    ensures { λ r. ⌜ Backed r (reading (now (tape .entry)) .tape) (now (plan .entry)) (now (multipliers .entry)) ⌝ }
 {
     let result = read(tape);
     let answer = result.answer;

@@ -53,7 +53,7 @@ pub extern "C" fn fibergravel_judge_plan(
 ) -> u64
     ensures { λ r. ⌜ r ≡ judgedCode (judged (now (tape .entry)) (now (plan .entry)) (now (multipliers .entry))) ⌝ }
     ensures { λ _. ⌜ now (out .exit) ≡ judgedLeft (judged (now (tape .entry)) (now (plan .entry)) (now (multipliers .entry))) (now (out .entry)) ⌝ }
-    ensures { λ r. ⌜ BackedBy r (now (out .exit)) (reading (now (tape .entry)) .tape) (now (plan .entry)) ⌝ }
+    ensures { λ r. ⌜ BackedBy r (now (out .exit)) (reading (now (tape .entry)) .tape) (now (plan .entry)) (now (multipliers .entry)) ⌝ }
 {
     let answer = judge_plan(tape, plan, multipliers);
     match answer {
@@ -92,7 +92,7 @@ pub extern "C" fn fibergravel_solve(
     ensures { λ _. ⌜ now (multipliers .exit) ≡ multipliersLeft (solving (now (tape .entry)) (now (plan .entry)) (now (multipliers .entry))) (now (multipliers .entry)) ⌝ }
     ensures { λ r. ⌜ RoundsBy r (now (out .exit)) (reading (now (tape .entry)) .tape .rounds) ⌝ }
     ensures { λ r. ⌜ AgainBy r (now (out .exit)) (now (tape .entry)) (now (plan .exit)) (now (multipliers .exit)) ⌝ }
-    ensures { λ r. ⌜ UpheldBy r (now (out .exit)) (reading (now (tape .entry)) .tape) (now (plan .exit)) ⌝ }
+    ensures { λ r. ⌜ UpheldBy r (now (out .exit)) (reading (now (tape .entry)) .tape) (now (plan .exit)) (now (multipliers .exit)) ⌝ }
 {
     let answer = solve(tape, plan, multipliers);
     match answer {

@@ -32,12 +32,12 @@ use Rattle.judge.specs.Judging.{gapWithin, judgedOn, judged, floorAbove, shownO
 use Rattle.judge.proofs.Accepted.{passes, backed, founded}
 use Rattle.rounds.specs.Lent.{lentPlan}
 use Rattle.rounds.specs.Rounds.{ahead, modelStates, candidate, exceeds, dropped, verdict}
-use Rattle.rounds.specs.Running.{aheadOf, candidateOf, Ending, ended, rounds}
+use Rattle.rounds.specs.Running.{aheadOf, candidateOf, Ending, proved, impossible, refused, ended, rounds}
 use Rattle.rounds.proofs.Lent.{length-lent-multipliers, lent-multipliers-bounded, length-lent-plan, lent-plan-input, lent-plan-state}
 use Rattle.rounds.proofs.ModelStates.{model-states}
 use Rattle.solver.specs.declared.Solved.{Solved}
 use Rattle.solver.specs.declared.Solved.the-variants.{Proved, Impossible, Refused}
-use Rattle.solver.specs.Solving.{solvingOn, endingAfterRead, solving, answerOf, planLeft, multipliersLeft}
+use Rattle.solver.specs.Solving.{solvingOn, endingAfterRead, solving, firstDuties, answerOf, planLeft, multipliersLeft}
 use Rattle.solver.specs.Demand.{Upheld, JudgedAgain, RoundsWithin}
 
 -- ---- A candidate that is not dropped follows the tape, and so does the plan that is lent
@@ -150,11 +150,23 @@ module _ (s : List ℕ) (plan y : List ℤ) where
 
 -- ---- What `solve` promises
 
+-- the u(0) of an answer is that of the plan left
+abbrev FirstOf : Solved → ℕ → List ℤ → Type 0
+FirstOf (Proved rounds gap first) m plan = first ≡ firstDuties m plan
+FirstOf (Impossible rounds) m plan = Unit {0}
+FirstOf (Refused why) m plan = Unit {0}
+
+first-of : (t : Tape) (e : Ending) (plan : List ℤ) → FirstOf (answerOf t e) (t .m) (planLeft e plan)
+first-of t (proved rounds gap plan y) before = refl
+first-of t (impossible rounds y) before = tt
+first-of t (refused why) before = tt
+
 -- what the judge says is backed
-upheld-by : (r : Solved) (s : List ℕ) (plan y : List ℤ) → Bytes s → JudgedAgain r s plan y → Upheld r (reading s .tape) plan
-upheld-by (Proved rounds gap first) s plan y b e = rw e at (backed s plan y b)
-upheld-by (Impossible rounds) s plan y b e = rw e at (founded s y b)
-upheld-by (Refused why) s plan y b e = tt
+upheld-by : (r : Solved) (s : List ℕ) (plan y : List ℤ) → Bytes s → JudgedAgain r s plan y → FirstOf r (reading s .tape .m) plan →
+    Upheld r (reading s .tape) plan y
+upheld-by (Proved rounds gap first) s plan y b e f = (rw e at (backed s plan y b), f)
+upheld-by (Impossible rounds) s plan y b e f = rw e at (founded s y b)
+upheld-by (Refused why) s plan y b e f = tt
 
 module _ (s : List ℕ) (plan y : List ℤ) where
   abbrev ending : Ending
@@ -169,11 +181,11 @@ module _ (s : List ℕ) (plan y : List ℤ) where
   pub judged-again : JudgedAgain solved s (planLeft ending plan) (multipliersLeft ending y)
   judged-again = solving-again s plan y .1
 
-  pub upheld : Bytes s → Upheld solved (reading s .tape) (planLeft ending plan)
-  upheld b = upheld-by solved s (planLeft ending plan) (multipliersLeft ending y) b judged-again
+  pub upheld : Bytes s → Upheld solved (reading s .tape) (planLeft ending plan) (multipliersLeft ending y)
+  upheld b = upheld-by solved s (planLeft ending plan) (multipliersLeft ending y) b judged-again (first-of (reading s .tape) ending plan)
 
   -- all clauses from the first three
   pub solve-promise : {r : Solved} {plan′ y′ : List ℤ} → Bytes s → r ≡ solved → plan′ ≡ planLeft ending plan → y′ ≡ multipliersLeft ending y →
       (r ≡ solved) × ((plan′ ≡ planLeft ending plan) × ((y′ ≡ multipliersLeft ending y)
-      × (RoundsWithin r (reading s .tape .rounds) × (JudgedAgain r s plan′ y′ × Upheld r (reading s .tape) plan′))))
-  solve-promise b e p m = (e, (p, (m, (rw e rounds-within, (rw (e, p, m) judged-again, rw (e, p) (upheld b))))))
+      × (RoundsWithin r (reading s .tape .rounds) × (JudgedAgain r s plan′ y′ × Upheld r (reading s .tape) plan′ y′))))
+  solve-promise b e p m = (e, (p, (m, (rw e rounds-within, (rw (e, p, m) judged-again, rw (e, p, m) (upheld b))))))

@@ -10,12 +10,14 @@ use Rattle.judge.specs.Demand.{NoneCheaper, NoRival}
 use Rattle.judge.specs.Judging.{judged, shown}
 use Rattle.solver.specs.declared.Solved.{Solved}
 use Rattle.solver.specs.declared.Solved.the-variants.{Proved, Impossible, Refused}
+use Rattle.solver.specs.Solving.{firstDuties}
 
--- 'Proved': the plan is a rival itself, and every rival costs at least its cost minus the gap. 'Impossible': there is no rival.
-abbrev pub Upheld : Solved → Tape → List ℤ → Type 0
-Upheld (Proved rounds gap first) t plan = NoneCheaper t plan gap
-Upheld (Impossible rounds) t plan = NoRival t
-Upheld (Refused why) t plan = Unit {0}
+-- 'Proved': what demand 3 says of the plan and the multipliers that the solve left, and the result's u(0) is that plan's.
+-- 'Impossible': there is no rival.
+abbrev pub Upheld : Solved → Tape → List ℤ → List ℤ → Type 0
+Upheld (Proved rounds gap first) t plan y = NoneCheaper t plan y gap × (first ≡ firstDuties (t .m) plan)
+Upheld (Impossible rounds) t plan y = NoRival t
+Upheld (Refused why) t plan y = Unit {0}
 
 -- Judging what a solve left gives the same gap, or again shows impossibility.
 abbrev pub JudgedAgain : Solved → List ℕ → List ℤ → List ℤ → Type 0

@@ -46,7 +46,7 @@ pub fn solve(tape: &[u8], plan: &mut [i32], multipliers: &mut [i32]) -> Solved
     ensures { λ _. ⌜ now (multipliers .exit) ≡ multipliersLeft (solving (now (tape .entry)) (now (plan .entry)) (now (multipliers .entry))) (now (multipliers .entry)) ⌝ }
     ensures { λ r. ⌜ RoundsWithin r (reading (now (tape .entry)) .tape .rounds) ⌝ }
     ensures { λ r. ⌜ JudgedAgain r (now (tape .entry)) (now (plan .exit)) (now (multipliers .exit)) ⌝ }
-    ensures { λ r. ⌜ Upheld r (reading (now (tape .entry)) .tape) (now (plan .exit)) ⌝ }
+    ensures { λ r. ⌜ Upheld r (reading (now (tape .entry)) .tape) (now (plan .exit)) (now (multipliers .exit)) ⌝ }
 {
     let result = read(tape);
     let answer = result.answer;

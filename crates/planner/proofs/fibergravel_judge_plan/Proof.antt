@@ -32,7 +32,7 @@ returns c =
     let j = k .before .before in
     let a = j .before .before .args in
     let e = rw (j .judge-plan .ensures .0) at (k .answer .given .1) in
-    judged-promise (judged (now (a .tape)) (now (a .plan)) (now (a .multipliers))) (reading (now (a .tape)) .tape) (now (a .plan)) (now (a .out)) (j .judge-plan .ensures)
+    judged-promise (judged (now (a .tape)) (now (a .plan)) (now (a .multipliers))) (reading (now (a .tape)) .tape) (now (a .plan)) (now (a .multipliers)) (now (a .out)) (j .judge-plan .ensures)
     (rw e) (rw e (ap (λ (gap : ℤ). gap ∷ []) (called (k .answer .given .0 .0) (c .before .known-told .given .0 .1))))
 
 returns-2 : tie.Need-returns-2
@@ -41,7 +41,7 @@ returns-2 c =
     let j = k .before .before in
     let a = j .before .before .args in
     let e = rw (j .judge-plan .ensures .0) at (k .answer2 .given .1) in
-    judged-promise (judged (now (a .tape)) (now (a .plan)) (now (a .multipliers))) (reading (now (a .tape)) .tape) (now (a .plan)) (now (a .out)) (j .judge-plan .ensures)
+    judged-promise (judged (now (a .tape)) (now (a .plan)) (now (a .multipliers))) (reading (now (a .tape)) .tape) (now (a .plan)) (now (a .multipliers)) (now (a .out)) (j .judge-plan .ensures)
     (rw e (c .code .ensures)) (rw e)
 
 pub fibergravel-judge-plan-spec : {M : Type 1} → statement M

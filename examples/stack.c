@@ -3,7 +3,9 @@
  * FIBERGRAVEL_STACK bytes, above a page that ends the program where it is touched. Prints how many of
  * them each thread used, its own start included; the thread `nothing` makes no call.
  *
- *     stack TAPE...
+ *     rt staticlib planner
+ *     cc -Iinclude -pthread examples/stack.c target/staticlib/libplanner.a -o stack
+ *     ./stack TAPE...
  */
 #define _GNU_SOURCE
 #include <errno.h>

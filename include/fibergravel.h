@@ -1,42 +1,36 @@
 /*
  * Fibergravel: the planning core of a sinter furnace. It reads a furnace tape, judges plans and
- * multipliers that it is shown, and works out a plan with a proved gap.
+ * multipliers that it is shown, and works out a plan with a proved gap. docs/TAPE.md has the tape's
+ * format.
  *
- * Link with libplanner.a, which `rt staticlib planner` writes to target/staticlib/.
+ * Link with libplanner.a, which `rt staticlib planner` writes to target/staticlib/. It is compiled for
+ * x86-64 Linux, and needs memcpy and memset from outside and nothing else.
+ *
+ * For ever. A call that stands here keeps its name, its arguments and the places of its `out`. What is
+ * added later comes as a new call, a new command of the tape or a new refusal, and FIBERGRAVEL_VERSION
+ * goes up.
  *
  * Memory. The caller owns all of it: the calls allocate nothing, keep no pointer and have no state
  * between them. So they may run on several threads at once, as long as no memory that one of them
  * writes is read or written by another at that time. What a call writes (`out`; plan and multipliers
- * of fibergravel_solve) overlaps nothing else that is passed to it. Pointers are never NULL, also
- * where the length is 0, and are aligned as their type asks, no more. Lengths count elements.
- * A call needs less than 64 kilobytes of stack.
+ * of fibergravel_solve) overlaps nothing else that is passed to it. Lengths count elements. Pointers
+ * are aligned as their type asks, no more.
+ *
+ * NULL is never allowed, also not with length 0. In C++ the data() of an empty std::vector or
+ * std::span may be NULL: pass the address of any object of that type in its place, with length 0.
+ *
+ * Stack and time. A thread with FIBERGRAVEL_STACK bytes of stack, its own start included, has room for
+ * every call. Every call ends. The longest is fibergravel_solve: it enters at most the tape's R rounds,
+ * at most FIBERGRAVEL_MOST_ROUNDS, and the work of a round is bounded by the tape's sizes. The other
+ * calls have no rounds.
  *
  * Results. Each call returns 0 where it has a result, which is then in `out`. Otherwise it returns a
- * refusal, and then no lent number has changed, those of `out` included. The low 8 bits of a refusal
- * are its number, the bits above them what it carries (at most 10,000):
- *
- *    1  cut            the tape ends inside a command, or before FF
- *    2  unknown        no command has this byte
- *    3  misplaced      the first command is not 10, or there is a second 10
- *    4  no such place  an index outside the size
- *    5  out of range   an operand outside its range, or lo > hi
- *    6  twice          the same place, or command 50, given again
- *    7  absent         at FF, something required was not given
- *    8  overrun        bytes after FF
- *                      1 to 8 carry an offset in the tape: that of the command's byte; for a tape that
- *                      ends before FF the tape's length; for 8 the offset after FF
- *    9  length         plan_len or multipliers_len is not the one below
- *   10  off model      a state of the plan differs from the model
- *   11  over limit     a plan number outside lo to hi
- *   12  multiplier     one outside -16,777,216 to 16,777,216
- *   13  wide           the gap is above T
- *   14  not shown      the multipliers do not show impossibility
- *                      9 to 14 carry 0
- *   15  open           R rounds without 'proved' or 'impossible'; carries R
+ * refusal, and then no lent number has changed, those of `out` included. FIBERGRAVEL_REFUSAL gives its
+ * number, which is one of the names below, and FIBERGRAVEL_CARRIED what it carries, at most 10,000.
  *
  * Plan and multipliers. n states, m inputs and N steps are the tape's. A plan has N * (n + m) numbers:
  * u(0), x(1), u(1), x(2) and so on, for each step its m inputs and then its n states. Multipliers are
- * N * n numbers, n for each step. At most 120 and 72.
+ * N * n numbers, n for each step.
  */
 #ifndef FIBERGRAVEL_H
 #define FIBERGRAVEL_H
@@ -48,36 +42,80 @@
 extern "C" {
 #endif
 
+/* The version of the calls, one number that compares: 100 times the first part plus the second. */
+#define FIBERGRAVEL_VERSION_MAJOR 1
+#define FIBERGRAVEL_VERSION_MINOR 0
+#define FIBERGRAVEL_VERSION (100 * FIBERGRAVEL_VERSION_MAJOR + FIBERGRAVEL_VERSION_MINOR)
+
 /* The number of a refusal, and what it carries. */
-#define FIBERGRAVEL_NUMBER(code) ((unsigned)((code) & 255))
+#define FIBERGRAVEL_REFUSAL(code) ((unsigned)((code) & 255))
 #define FIBERGRAVEL_CARRIED(code) ((uint64_t)(code) >> 8)
 
-/* Places of fibergravel_read's out, and how many numbers stand there. */
+/* The most of everything. */
 enum {
-    FIBERGRAVEL_STATES = 0,      /* n, 1 to 6 */
-    FIBERGRAVEL_INPUTS = 1,      /* m, 1 to 4 */
-    FIBERGRAVEL_STEPS = 2,       /* N, 1 to 12 */
-    FIBERGRAVEL_A = 3,           /* 36: A(i,j) at 6 * i + j */
-    FIBERGRAVEL_B = 39,          /* 24: B(i,j) at 4 * i + j */
-    FIBERGRAVEL_DRIFT = 63,      /* 6: w(i) */
-    FIBERGRAVEL_LOW = 69,        /* 10: lo of each column, the n states and then the m inputs */
-    FIBERGRAVEL_HIGH = 79,       /* 10: hi */
-    FIBERGRAVEL_REFERENCE = 89,  /* 10: r */
-    FIBERGRAVEL_WEIGHT = 99,     /* 10: h */
-    FIBERGRAVEL_START = 109,     /* 6: x(0) */
-    FIBERGRAVEL_GAIN = 115,      /* g */
-    FIBERGRAVEL_ROUNDS = 116,    /* R */
-    FIBERGRAVEL_WANTED = 117,    /* T */
-    FIBERGRAVEL_NUMBERS = 118
+    FIBERGRAVEL_MOST_STATES = 6,
+    FIBERGRAVEL_MOST_INPUTS = 4,
+    FIBERGRAVEL_MOST_STEPS = 12,
+    FIBERGRAVEL_MOST_ROUNDS = 10000,
+    FIBERGRAVEL_MOST_TAPE = 464,        /* bytes of an accepted tape */
+    FIBERGRAVEL_MOST_PLAN = 120,        /* numbers of a plan */
+    FIBERGRAVEL_MOST_MULTIPLIERS = 72,  /* numbers of multipliers */
+    FIBERGRAVEL_STACK = 49152           /* bytes of a stack that has room for a call */
 };
 
-/* Places of fibergravel_solve's out, and the two kinds. */
+/* The refusals. */
+enum {
+    /* These carry an offset in the tape: that of the command's byte, or what is said here. */
+    FIBERGRAVEL_CUT = 1,            /* the tape ends inside a command; or before FF: the tape's length */
+    FIBERGRAVEL_UNKNOWN = 2,        /* no command has this byte */
+    FIBERGRAVEL_MISPLACED = 3,      /* the first command is not 10, or there is a second 10 */
+    FIBERGRAVEL_NO_SUCH_PLACE = 4,  /* an index outside the size */
+    FIBERGRAVEL_OUT_OF_RANGE = 5,   /* an operand outside its range, or lo > hi */
+    FIBERGRAVEL_TWICE = 6,          /* the same place, or command 50, given again */
+    FIBERGRAVEL_ABSENT = 7,         /* at FF, something required was not given */
+    FIBERGRAVEL_OVERRUN = 8,        /* bytes after FF: the offset after FF */
+
+    /* These carry 0. */
+    FIBERGRAVEL_LENGTH = 9,         /* plan_len or multipliers_len is not the one that the tape asks for */
+    FIBERGRAVEL_OFF_MODEL = 10,     /* a state of the plan differs from the model */
+    FIBERGRAVEL_OVER_LIMIT = 11,    /* a plan number outside lo to hi */
+    FIBERGRAVEL_MULTIPLIER = 12,    /* one outside -16,777,216 to 16,777,216 */
+    FIBERGRAVEL_WIDE = 13,          /* the gap is above T */
+    FIBERGRAVEL_NOT_SHOWN = 14,     /* the multipliers do not show impossibility */
+
+    /* This carries R. It is an answer of fibergravel_solve as much as a refusal: there may be a plan. */
+    FIBERGRAVEL_OPEN = 15           /* R rounds without 'proved' or 'impossible' */
+};
+
+/* Places of fibergravel_read's out, and how many numbers it has. */
+enum {
+    FIBERGRAVEL_STATES = 0,         /* n */
+    FIBERGRAVEL_INPUTS = 1,         /* m */
+    FIBERGRAVEL_STEPS = 2,          /* N */
+    FIBERGRAVEL_STATE_MATRIX = 3,   /* 36: A(i,j) at 6 * i + j */
+    FIBERGRAVEL_INPUT_MATRIX = 39,  /* 24: B(i,j) at 4 * i + j */
+    FIBERGRAVEL_DRIFT = 63,         /* 6: w(i) */
+    FIBERGRAVEL_LOW = 69,           /* 10: lo of each column, the n states and then the m inputs */
+    FIBERGRAVEL_HIGH = 79,          /* 10: hi */
+    FIBERGRAVEL_REFERENCE = 89,     /* 10: r */
+    FIBERGRAVEL_WEIGHT = 99,        /* 10: h */
+    FIBERGRAVEL_START = 109,        /* 6: x(0) */
+    FIBERGRAVEL_GAIN = 115,         /* g */
+    FIBERGRAVEL_ROUNDS = 116,       /* R */
+    FIBERGRAVEL_WANTED = 117,       /* T */
+    FIBERGRAVEL_READ_LENGTH = 118
+};
+
+/* How many numbers fibergravel_judge_plan's out has. */
+enum { FIBERGRAVEL_JUDGE_PLAN_LENGTH = 1 };
+
+/* Places of fibergravel_solve's out, how many numbers it has, and the two kinds. */
 enum {
     FIBERGRAVEL_KIND = 0,
-    FIBERGRAVEL_ENTERED = 1,     /* the rounds entered, the answering one included, 1 to R */
+    FIBERGRAVEL_ENTERED = 1,        /* the rounds entered, the answering one included, 1 to R */
     FIBERGRAVEL_GAP = 2,
-    FIBERGRAVEL_FIRST = 3,       /* 4: u(0) */
-    FIBERGRAVEL_ANSWER = 7,
+    FIBERGRAVEL_FIRST = 3,          /* 4: u(0) */
+    FIBERGRAVEL_SOLVE_LENGTH = 7,
 
     FIBERGRAVEL_PROVED = 1,
     FIBERGRAVEL_IMPOSSIBLE = 2
@@ -87,14 +125,15 @@ enum {
  * Reads a tape. out holds each number of the tape, 0 where the tape gives none and beyond its sizes.
  * Refusals 1 to 8.
  */
-uint64_t fibergravel_read(const uint8_t *tape, size_t tape_len, int64_t out[118]);
+uint64_t fibergravel_read(const uint8_t *tape, size_t tape_len, int64_t out[FIBERGRAVEL_READ_LENGTH]);
 
 /*
  * Judges a plan with multipliers. out holds the gap, at most T: the plan follows the tape, and no plan
  * that does costs less than its cost minus the gap. Refusals 1 to 13.
  */
 uint64_t fibergravel_judge_plan(const uint8_t *tape, size_t tape_len, const int32_t *plan, size_t plan_len,
-                                const int32_t *multipliers, size_t multipliers_len, int64_t out[1]);
+                                const int32_t *multipliers, size_t multipliers_len,
+                                int64_t out[FIBERGRAVEL_JUDGE_PLAN_LENGTH]);
 
 /*
  * Judges multipliers for impossibility. 0 is 'shown': no plan follows the tape. Refusals 1 to 9, 12 and 14.
@@ -110,7 +149,7 @@ uint64_t fibergravel_judge_multipliers(const uint8_t *tape, size_t tape_len, con
  * Refusals 1 to 9 and 15.
  */
 uint64_t fibergravel_solve(const uint8_t *tape, size_t tape_len, int32_t *plan, size_t plan_len,
-                           int32_t *multipliers, size_t multipliers_len, int64_t out[7]);
+                           int32_t *multipliers, size_t multipliers_len, int64_t out[FIBERGRAVEL_SOLVE_LENGTH]);
 
 #ifdef __cplusplus
 }

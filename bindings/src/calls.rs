@@ -36,24 +36,32 @@ mod foreign {
 }
 
 /// How many numbers [`read`] writes.
-pub const READ_NUMBERS: usize = 118;
+pub const READ_LENGTH: usize = 118;
+
+/// How many numbers [`judge_plan`] writes.
+pub const JUDGE_PLAN_LENGTH: usize = 1;
 
 /// How many numbers [`solve`] writes.
-pub const SOLVE_NUMBERS: usize = 7;
+pub const SOLVE_LENGTH: usize = 7;
 
 /// Reads a tape. `out`: n, m, N, A by rows of 6 (36), B by rows of 4 (24), w (6), lo (10), hi
 /// (10), r (10), h (10), x(0) (6), g, R, T; columns are states, then inputs, and places beyond
 /// the tape's sizes are 0.
-pub fn read(tape: &[u8], out: &mut [i64; READ_NUMBERS]) -> u64 {
-    // SAFETY: the tape's pointer and length are one slice's, and `out` has the places that the
-    // call writes. It keeps no pointer.
+pub fn read(tape: &[u8], out: &mut [i64; READ_LENGTH]) -> u64 {
+    // SAFETY: the tape's pointer and length are one slice's, never null, and `out` has the places
+    // that the call writes. It keeps no pointer.
     unsafe { foreign::fibergravel_read(tape.as_ptr(), tape.len(), out.as_mut_ptr()) }
 }
 
 /// Judges a plan with multipliers. `out`: the gap.
-pub fn judge_plan(tape: &[u8], plan: &[i32], multipliers: &[i32], out: &mut [i64; 1]) -> u64 {
+pub fn judge_plan(
+    tape: &[u8],
+    plan: &[i32],
+    multipliers: &[i32],
+    out: &mut [i64; JUDGE_PLAN_LENGTH],
+) -> u64 {
     // SAFETY: each pointer and the length after it are one slice's, read only, and `out` has the
-    // one place that the call writes. It keeps no pointer.
+    // place that the call writes. It keeps no pointer.
     unsafe {
         foreign::fibergravel_judge_plan(
             tape.as_ptr(),
@@ -87,7 +95,7 @@ pub fn solve(
     tape: &[u8],
     plan: &mut [i32],
     multipliers: &mut [i32],
-    out: &mut [i64; SOLVE_NUMBERS],
+    out: &mut [i64; SOLVE_LENGTH],
 ) -> u64 {
     // SAFETY: each pointer and the length after it are one slice's, the three that are written
     // are lent mutably and so lie apart, and `out` has the places that the call writes. It keeps

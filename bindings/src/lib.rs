@@ -2,10 +2,12 @@
 //!
 //! This crate links `libplanner.a`, which `rt staticlib planner` writes, and wraps its four
 //! calls. Every call takes the tape's bytes and may be lent anything: what document 01 refuses
-//! comes back as a [`Refusal`], and then no lent number has changed.
+//! comes back as a [`Refusal`], and then no lent number has changed. The crate needs `core` only.
+//! `docs/TAPE.md` of the repository has the tape's format, `include/fibergravel.h` what a call
+//! needs of memory, stack and time.
 //!
 //! ```
-//! use fibergravel::{read, solve, Solved};
+//! use fibergravel::{read, solve, Solved, MOST_MULTIPLIERS, MOST_PLAN};
 //!
 //! // Document 01's tape F.
 //! let tape = [
@@ -19,19 +21,33 @@
 //!     0xFF,
 //! ];
 //! let numbers = read(&tape)?;
-//! let mut plan = vec![0; numbers.plan_length()];
-//! let mut multipliers = vec![0; numbers.multipliers_length()];
-//! let solved = solve(&tape, &mut plan, &mut multipliers)?;
+//! let (mut plan, mut multipliers) = ([0; MOST_PLAN], [0; MOST_MULTIPLIERS]);
+//! let plan = &mut plan[..numbers.plan_length()];
+//! let multipliers = &mut multipliers[..numbers.multipliers_length()];
+//! let solved = solve(&tape, plan, multipliers)?;
 //! assert_eq!(solved, Solved::Proved { rounds: 2, gap: 32768, first: [4, 0, 0, 0] });
-//! assert_eq!((plan, multipliers), (vec![4, 102], vec![-16]));
+//! assert_eq!((&*plan, &*multipliers), (&[4, 102][..], &[-16][..]));
 //! # Ok::<(), fibergravel::Refusal>(())
 //! ```
+//!
+//! # Panics
+//!
+//! No call panics with this repository's `libplanner.a`: it is proved what that library answers,
+//! and the memory safety of this crate rests on the same proof. A number that it never answers
+//! therefore shows that another library was linked. It is no refusal, which would say something
+//! of the tape, and no result; the call panics, so that no program goes on with it. A program
+//! that must not panic uses [`calls`], whose functions hand the library's numbers over, and
+//! [`Refusal::from_answer`].
+#![no_std]
 #![deny(missing_docs)]
+
+#[cfg(test)]
+extern crate std;
 
 pub mod calls;
 mod refusal;
 
-use std::array::from_fn;
+use core::array::from_fn;
 
 pub use refusal::Refusal;
 
@@ -39,12 +55,21 @@ pub use refusal::Refusal;
 pub const MOST_STATES: usize = 6;
 /// The most inputs, m.
 pub const MOST_INPUTS: usize = 4;
+/// The most steps, N.
+pub const MOST_STEPS: usize = 12;
 /// The most columns: states, then inputs.
 pub const MOST_COLUMNS: usize = MOST_STATES + MOST_INPUTS;
+/// The most bytes of an accepted tape.
+pub const MOST_TAPE: usize = 464;
+/// The most numbers of a plan.
+pub const MOST_PLAN: usize = MOST_STEPS * MOST_COLUMNS;
+/// The most numbers of multipliers.
+pub const MOST_MULTIPLIERS: usize = MOST_STEPS * MOST_STATES;
 
 /// The sizes and each number of an accepted tape, absent ones as 0. Places beyond the sizes are
 /// 0. A column is a state, 0 to n−1, or an input, n to n+m−1.
 #[derive(Clone, Copy, Debug, PartialEq, Eq)]
+#[non_exhaustive]
 pub struct Tape {
     /// n, 1 to 6.
     pub states: usize,
@@ -68,8 +93,8 @@ pub struct Tape {
     pub weight: [i64; MOST_COLUMNS],
     /// The start x(0).
     pub start: [i64; MOST_STATES],
-    /// The step size g.
-    pub step_size: i64,
+    /// The gain g, the step size of a round.
+    pub gain: i64,
     /// R, the number of rounds allowed.
     pub rounds: i64,
     /// T, the wanted gap.
@@ -89,13 +114,13 @@ impl Tape {
     }
 
     /// The tape's numbers in the order of [`calls::read`].
-    fn from_numbers(numbers: &[i64; calls::READ_NUMBERS]) -> Tape {
+    fn from_numbers(numbers: &[i64; calls::READ_LENGTH]) -> Tape {
         let mut rest = numbers.iter().copied();
-        let [states, inputs, steps] = next(&mut rest).map(|size| size as usize);
+        let [states, inputs, steps] = next(&mut rest);
         Tape {
-            states,
-            inputs,
-            steps,
+            states: size(states, MOST_STATES),
+            inputs: size(inputs, MOST_INPUTS),
+            steps: size(steps, MOST_STEPS),
             a: from_fn(|_| next(&mut rest)),
             b: from_fn(|_| next(&mut rest)),
             drift: next(&mut rest),
@@ -104,7 +129,7 @@ impl Tape {
             reference: next(&mut rest),
             weight: next(&mut rest),
             start: next(&mut rest),
-            step_size: rest.next().unwrap_or(0),
+            gain: rest.next().unwrap_or(0),
             rounds: rest.next().unwrap_or(0),
             wanted_gap: rest.next().unwrap_or(0),
         }
@@ -116,12 +141,21 @@ fn next<const COUNT: usize>(rest: &mut impl Iterator<Item = i64>) -> [i64; COUNT
     from_fn(|_| rest.next().unwrap_or(0))
 }
 
+/// A size, which is from 1 to `most`.
+fn size(number: i64, most: usize) -> usize {
+    match usize::try_from(number) {
+        Ok(size) if (1..=most).contains(&size) => size,
+        _ => wrong_library(),
+    }
+}
+
 /// The answer of [`judge_multipliers`]: the word 'shown'.
 #[derive(Clone, Copy, Debug, PartialEq, Eq)]
 pub struct Shown;
 
 /// The answer of [`solve`].
 #[derive(Clone, Copy, Debug, PartialEq, Eq)]
+#[non_exhaustive]
 pub enum Solved {
     /// 'proved': the plan and the multipliers are in the lent slices.
     Proved {
@@ -130,7 +164,7 @@ pub enum Solved {
         /// No plan that follows the tape costs less than this plan's cost minus the gap.
         gap: i64,
         /// u(0), the duties of the first step; places beyond m are 0.
-        first: [i64; MOST_INPUTS],
+        first: [i32; MOST_INPUTS],
     },
     /// 'impossible': no plan follows the tape. The multipliers that show it are in the lent
     /// slice, and the lent plan is as it was.
@@ -140,87 +174,136 @@ pub enum Solved {
     },
 }
 
-/// Reads a tape: its sizes and each of its numbers. Refusals 1 to 8.
+impl Solved {
+    /// The answer's numbers in the order of [`calls::solve`].
+    fn from_numbers(numbers: [i64; calls::SOLVE_LENGTH]) -> Solved {
+        let [kind, rounds, gap, first @ ..] = numbers;
+        match kind {
+            1 => Solved::Proved {
+                rounds,
+                gap,
+                first: first.map(duty),
+            },
+            2 => Solved::Impossible { rounds },
+            _ => wrong_library(),
+        }
+    }
+}
+
+/// A duty, in the type of a plan's numbers.
+fn duty(number: i64) -> i32 {
+    i32::try_from(number).unwrap_or_else(|_| wrong_library())
+}
+
+/// For what `libplanner.a` never answers.
+#[cold]
+fn wrong_library() -> ! {
+    panic!("the linked library is not the planner that this crate wraps")
+}
+
+/// Reads a tape: its sizes and each of its numbers.
+///
+/// # Errors
+///
+/// Refusals 1 to 8, each with an offset in the tape.
 pub fn read(tape: &[u8]) -> Result<Tape, Refusal> {
-    let mut out = [0; calls::READ_NUMBERS];
+    let mut out = [0; calls::READ_LENGTH];
     accepted(calls::read(tape, &mut out))?;
     Ok(Tape::from_numbers(&out))
 }
 
 /// Judges a plan with multipliers: the gap, which is at most T. No plan that follows the tape
-/// costs less than this plan's cost minus the gap. Refusals 1 to 13.
+/// costs less than this plan's cost minus the gap.
+///
+/// # Errors
+///
+/// Refusals 1 to 8 of the tape; 9 where a slice has not the length of [`Tape::plan_length`] or
+/// [`Tape::multipliers_length`]; then 12 of the multipliers, 10 and 11 of the plan, and 13.
 pub fn judge_plan(tape: &[u8], plan: &[i32], multipliers: &[i32]) -> Result<i64, Refusal> {
-    let mut out = [0];
+    let mut out = [0; calls::JUDGE_PLAN_LENGTH];
     accepted(calls::judge_plan(tape, plan, multipliers, &mut out))?;
     let [gap] = out;
     Ok(gap)
 }
 
-/// Judges multipliers for impossibility: 'shown' says that no plan follows the tape. Refusals 1
-/// to 9, 12 and 14.
+/// Judges multipliers for impossibility: 'shown' says that no plan follows the tape.
+///
+/// # Errors
+///
+/// Refusals 1 to 8 of the tape, 9 of the slice's length, then 12 and 14.
 pub fn judge_multipliers(tape: &[u8], multipliers: &[i32]) -> Result<Shown, Refusal> {
     accepted(calls::judge_multipliers(tape, multipliers))?;
     Ok(Shown)
 }
 
-/// Solves. [`Solved`] says what the slices hold then; a refusal leaves both as they were.
-/// [`Tape::plan_length`] and [`Tape::multipliers_length`] are the lengths to lend. Refusals 1 to
-/// 9 and 15.
+/// Solves. [`Solved`] says what the slices hold then; [`Tape::plan_length`] and
+/// [`Tape::multipliers_length`] are the lengths to lend.
+///
+/// # Errors
+///
+/// Refusals 1 to 8 of the tape, 9 of the slices' lengths, and 15, 'open', where R rounds ended
+/// without an answer. A refusal leaves both slices as they were.
 pub fn solve(tape: &[u8], plan: &mut [i32], multipliers: &mut [i32]) -> Result<Solved, Refusal> {
-    let mut out = [0; calls::SOLVE_NUMBERS];
+    let mut out = [0; calls::SOLVE_LENGTH];
     accepted(calls::solve(tape, plan, multipliers, &mut out))?;
-    let [kind, rounds, gap, first @ ..] = out;
-    match kind {
-        1 => Ok(Solved::Proved { rounds, gap, first }),
-        2 => Ok(Solved::Impossible { rounds }),
-        _ => Err(Refusal::Unlisted {
-            answer: kind as u64,
-        }),
-    }
+    Ok(Solved::from_numbers(out))
 }
 
 /// Nothing for the answer 0, else the refusal.
 fn accepted(answer: u64) -> Result<(), Refusal> {
     match Refusal::from_answer(answer) {
-        None => Ok(()),
+        None if answer == 0 => Ok(()),
+        None => wrong_library(),
         Some(refusal) => Err(refusal),
     }
 }
 
 #[cfg(test)]
 mod tests {
+    use std::panic::catch_unwind;
+
     use super::*;
+
+    /// 1 at place 0, 2 at place 1 and so on.
+    fn counted() -> [i64; calls::READ_LENGTH] {
+        from_fn(|place| place as i64 + 1)
+    }
 
     #[test]
     fn every_number_of_a_tape_has_its_place() {
-        let numbers = from_fn(|place| place as i64);
-        let tape = Tape::from_numbers(&numbers);
-        assert_eq!((tape.states, tape.inputs, tape.steps), (0, 1, 2));
-        assert_eq!((tape.a[0][0], tape.a[5][5]), (3, 38));
-        assert_eq!((tape.b[0][0], tape.b[1][0], tape.b[5][3]), (39, 43, 62));
-        assert_eq!((tape.drift[0], tape.lo[0], tape.hi[0]), (63, 69, 79));
-        assert_eq!((tape.reference[0], tape.weight[0]), (89, 99));
-        assert_eq!((tape.start[0], tape.start[5]), (109, 114));
-        assert_eq!(
-            (tape.step_size, tape.rounds, tape.wanted_gap),
-            (115, 116, 117)
-        );
+        let tape = Tape::from_numbers(&counted());
+        assert_eq!((tape.states, tape.inputs, tape.steps), (1, 2, 3));
+        assert_eq!((tape.a[0][0], tape.a[5][5]), (4, 39));
+        assert_eq!((tape.b[0][0], tape.b[1][0], tape.b[5][3]), (40, 44, 63));
+        assert_eq!((tape.drift[0], tape.lo[0], tape.hi[0]), (64, 70, 80));
+        assert_eq!((tape.reference[0], tape.weight[0]), (90, 100));
+        assert_eq!((tape.start[0], tape.start[5]), (110, 115));
+        assert_eq!((tape.gain, tape.rounds, tape.wanted_gap), (116, 117, 118));
+    }
+
+    #[test]
+    fn what_no_planner_answers_panics() {
+        for answer in [16, 9 + 256, u64::MAX] {
+            assert!(catch_unwind(|| accepted(answer)).is_err());
+        }
+        for (place, number) in [(0, 0), (0, 7), (1, 5), (2, 13), (2, -1)] {
+            let mut numbers = counted();
+            numbers[place] = number;
+            assert!(catch_unwind(|| Tape::from_numbers(&numbers)).is_err());
+        }
+        for numbers in [[0; 7], [3; 7], [1, 1, 1, 1 << 40, 0, 0, 0]] {
+            assert!(catch_unwind(|| Solved::from_numbers(numbers)).is_err());
+        }
     }
 
     #[test]
     fn anything_may_be_lent() {
-        assert_eq!(read(&[]), Err(Refusal::Cut { offset: 0 }));
-        assert_eq!(
-            judge_plan(&[0xff], &[], &[]),
-            Err(Refusal::Misplaced { offset: 0 })
-        );
-        assert_eq!(
-            judge_multipliers(&[0], &[1]),
-            Err(Refusal::Unknown { offset: 0 })
-        );
-        assert_eq!(
-            solve(&[0x10], &mut [], &mut [7]),
-            Err(Refusal::Cut { offset: 0 })
-        );
+        let cut = Refusal::Cut { offset: 0 };
+        let unknown = Refusal::Unknown { offset: 0 };
+        let misplaced = Refusal::Misplaced { offset: 0 };
+        assert_eq!(read(&[]), Err(cut));
+        assert_eq!(judge_plan(&[0xff], &[], &[]), Err(misplaced));
+        assert_eq!(judge_multipliers(&[0], &[1]), Err(unknown));
+        assert_eq!(solve(&[0x10], &mut [], &mut [7]), Err(cut));
     }
 }

@@ -1,10 +1,12 @@
 //! The refusals, 1 to 15.
 
-use std::error::Error;
-use std::fmt;
+use core::fmt;
 
-/// Why a call gives no answer. Each case holds what the refusal carries.
+/// Why a call gives no answer. Each case holds what the refusal carries. The cases are those of
+/// document 01's table and no others, so a refusal always says something of the tape or of what
+/// was lent; what a call does with any other number, the crate's page says under "Panics".
 #[derive(Clone, Copy, Debug, PartialEq, Eq, Hash)]
+#[non_exhaustive]
 pub enum Refusal {
     /// 1: the tape ends inside a command, or before FF.
     Cut {
@@ -58,26 +60,20 @@ pub enum Refusal {
     Wide,
     /// 14: the multipliers do not show impossibility.
     NotShown,
-    /// 15: R rounds without 'proved' or 'impossible'.
+    /// 15: R rounds without 'proved' or 'impossible'. There may be a plan all the same.
     Open {
         /// The tape's R.
         rounds: u64,
     },
-    /// An answer that is not in the table of refusals, or a result that is none. A libplanner.a
-    /// of this repository never gives one; another library might.
-    Unlisted {
-        /// The number that was answered, or the kind of the result.
-        answer: u64,
-    },
 }
 
 impl Refusal {
-    /// The refusal that an answer of [`crate::calls`] means; none for 0, which is no refusal.
+    /// The refusal that an answer of [`crate::calls`] means; none for 0, which says that there is
+    /// a result, and for every other number that no refusal has.
     pub fn from_answer(answer: u64) -> Option<Refusal> {
         let (number, carried) = (answer % 256, answer / 256);
         let offset = carried;
-        let refusal = match number {
-            _ if answer == 0 => return None,
+        Some(match number {
             1 => Refusal::Cut { offset },
             2 => Refusal::Unknown { offset },
             3 => Refusal::Misplaced { offset },
@@ -93,9 +89,8 @@ impl Refusal {
             13 if carried == 0 => Refusal::Wide,
             14 if carried == 0 => Refusal::NotShown,
             15 => Refusal::Open { rounds: carried },
-            _ => Refusal::Unlisted { answer },
-        };
-        Some(refusal)
+            _ => return None,
+        })
     }
 
     /// Document 01's number, word and carried number of the refusal.
@@ -116,11 +111,10 @@ impl Refusal {
             Refusal::Wide => (13, "wide", None),
             Refusal::NotShown => (14, "not shown", None),
             Refusal::Open { rounds } => (15, "open", Some(rounds)),
-            Refusal::Unlisted { answer } => (answer % 256, "unlisted", Some(answer / 256)),
         }
     }
 
-    /// The number, 1 to 15.
+    /// The number in document 01's table, 1 to 15.
     pub fn number(self) -> u64 {
         self.entry().0
     }
@@ -148,48 +142,41 @@ impl fmt::Display for Refusal {
     }
 }
 
-impl Error for Refusal {}
+impl core::error::Error for Refusal {}
 
 #[cfg(test)]
 mod tests {
+    use std::string::ToString;
+
     use super::*;
 
     #[test]
     fn each_number_gives_its_refusal() {
         for number in 1..=15 {
             let carried = if (9..=14).contains(&number) { 0 } else { 463 };
-            let refusal = Refusal::from_answer(number + 256 * carried).expect("no 0");
+            let refusal = Refusal::from_answer(number + 256 * carried).expect("in the table");
             assert_eq!(refusal.number(), number);
             assert_eq!(refusal.carried().unwrap_or(0), carried);
-            assert_ne!(refusal.word(), "unlisted");
         }
-        assert_eq!(
-            Refusal::from_answer(6 + 256 * 463),
-            Some(Refusal::Twice { offset: 463 })
-        );
-        assert_eq!(Refusal::from_answer(9), Some(Refusal::Length));
-        assert_eq!(
-            Refusal::from_answer(15 + 256 * 10_000),
-            Some(Refusal::Open { rounds: 10_000 })
-        );
     }
 
     #[test]
-    fn all_other_answers_are_unlisted() {
-        assert_eq!(Refusal::from_answer(0), None);
-        for answer in [16, 255, 256, 9 + 256, 14 + 256, u64::MAX] {
-            assert_eq!(
-                Refusal::from_answer(answer),
-                Some(Refusal::Unlisted { answer })
-            );
+    fn no_other_number_gives_one() {
+        for answer in [0, 16, 255, 256, 9 + 256, 14 + 256, u64::MAX] {
+            assert_eq!(Refusal::from_answer(answer), None);
         }
     }
 
     #[test]
     fn refusals_as_text() {
-        let text = |answer| Refusal::from_answer(answer).expect("no 0").to_string();
-        assert_eq!(text(7 + 256 * 36), "refused 7 (absent) at 36");
-        assert_eq!(text(13), "refused 13 (wide)");
-        assert_eq!(text(15 + 256 * 5), "refused 15 (open) after 5 rounds");
+        assert_eq!(
+            Refusal::Absent { offset: 36 }.to_string(),
+            "refused 7 (absent) at 36"
+        );
+        assert_eq!(Refusal::Wide.to_string(), "refused 13 (wide)");
+        assert_eq!(
+            Refusal::Open { rounds: 5 }.to_string(),
+            "refused 15 (open) after 5 rounds"
+        );
     }
 }

@@ -33,10 +33,10 @@ impl Call {
     /// How many numbers the call's `out` has.
     fn out_length(self) -> usize {
         match self {
-            Call::Read => calls::READ_NUMBERS,
-            Call::JudgePlan => 1,
+            Call::Read => calls::READ_LENGTH,
+            Call::JudgePlan => calls::JUDGE_PLAN_LENGTH,
             Call::JudgeMultipliers => 0,
-            Call::Solve => calls::SOLVE_NUMBERS,
+            Call::Solve => calls::SOLVE_LENGTH,
         }
     }
 }

@@ -75,7 +75,7 @@ fn as_planner(solved: Solved) -> planner::Solved {
         Solved::Proved { rounds, gap, first } => planner::Solved::Proved {
             rounds: i64::from(rounds),
             gap: narrow(gap),
-            first: first.map(i64::from),
+            first,
         },
         Solved::Impossible { rounds } => planner::Solved::Impossible {
             rounds: i64::from(rounds),
@@ -86,7 +86,7 @@ fn as_planner(solved: Solved) -> planner::Solved {
 /// A tape's numbers in the order of the call.
 fn numbers(tape: &planner::Tape) -> Vec<i64> {
     let sizes = [tape.states, tape.inputs, tape.steps].map(|size| size as i64);
-    let search = [tape.step_size, tape.rounds, tape.wanted_gap];
+    let search = [tape.gain, tape.rounds, tape.wanted_gap];
     [
         &sizes,
         tape.a.as_flattened(),

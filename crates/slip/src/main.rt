@@ -1,13 +1,29 @@
-// The printing program: reads a tape from standard input and prints its firing slip.
+// The printing program: reads a tape from standard input and prints its firing slip. Where it cannot
+// read or write it says so on standard error, since the language has no exit status.
+use libc::STDIN_FILENO;
+use libc::STDOUT_FILENO;
 use slip_text::tape_slip;
+
+// `read_full` stops early where the input ends and where a read fails. One more read tells the two
+// apart: only at the end does it answer 0.
+fn has_ended() -> bool {
+    let mut next = [0u8; 1];
+    libc::read(STDIN_FILENO, &mut next) == 0
+}
 
 // 472 bytes decide every tape, however much follows: the commands that a tape can have, each of
 // them once, are 463 bytes before FF, and the longest command has 9.
 fn main() {
     let mut input = [0u8; 472];
-    let read = io::read_full(0, &mut input);
+    let read = io::read_full(STDIN_FILENO, &mut input);
+    if read < 472 && !has_ended() {
+        os::fail(b"slip: standard input");
+        return;
+    }
     let slip = tape_slip(&input[..read]);
     let bytes = slip.bytes;
     let length = slip.length;
-    io::write_all(1, &bytes[..length]);
+    if !io::write_all(STDOUT_FILENO, &bytes[..length]) {
+        os::fail(b"slip: standard output");
+    }
 }

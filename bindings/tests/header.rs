@@ -1,0 +1,40 @@
+//! The header for C and this crate name the same numbers.
+
+use fibergravel::{calls, Refusal};
+
+const HEADER: &str = include_str!("../../include/fibergravel.h");
+
+/// The number that the header gives a name.
+fn number(name: &str) -> Option<u64> {
+    let defined = format!(" FIBERGRAVEL_{name} = ");
+    let (_, rest) = HEADER.split_once(&defined)?;
+    let digits: String = rest.chars().take_while(char::is_ascii_digit).collect();
+    digits.parse().ok()
+}
+
+#[test]
+fn sizes_and_lengths() {
+    let sizes = [
+        ("MOST_STATES", fibergravel::MOST_STATES),
+        ("MOST_INPUTS", fibergravel::MOST_INPUTS),
+        ("MOST_STEPS", fibergravel::MOST_STEPS),
+        ("MOST_TAPE", fibergravel::MOST_TAPE),
+        ("MOST_PLAN", fibergravel::MOST_PLAN),
+        ("MOST_MULTIPLIERS", fibergravel::MOST_MULTIPLIERS),
+        ("READ_LENGTH", calls::READ_LENGTH),
+        ("JUDGE_PLAN_LENGTH", calls::JUDGE_PLAN_LENGTH),
+        ("SOLVE_LENGTH", calls::SOLVE_LENGTH),
+    ];
+    for (name, size) in sizes {
+        assert_eq!(number(name), Some(size as u64), "{name}");
+    }
+}
+
+#[test]
+fn refusals() {
+    for answer in 1..=15 {
+        let refusal = Refusal::from_answer(answer).expect("in the table");
+        let name = refusal.word().replace(' ', "_").to_uppercase();
+        assert_eq!(number(&name), Some(answer), "{name}");
+    }
+}

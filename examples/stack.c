@@ -1,0 +1,148 @@
+/*
+ * Holds the calls to the stack that the header states: each runs on a thread whose whole stack has
+ * FIBERGRAVEL_STACK bytes, above a page that ends the program where it is touched. Prints how many of
+ * them each thread used, its own start included; the thread `nothing` makes no call.
+ *
+ *     rt staticlib planner
+ *     cc -Iinclude -pthread examples/stack.c target/staticlib/libplanner.a -o stack
+ *     ./stack TAPE...
+ */
+#define _GNU_SOURCE
+#include <errno.h>
+#include <pthread.h>
+#include <stdio.h>
+#include <stdlib.h>
+#include <string.h>
+#include <sys/mman.h>
+#include <unistd.h>
+
+#include "fibergravel.h"
+
+/* A stack is filled with this before its thread starts: the lowest byte that differs afterwards tells
+   how far down the thread went. */
+enum { PAINT = 0xa5 };
+
+/* What the calls are lent. One byte more than any accepted tape has shows that a file is none. */
+static uint8_t tape[FIBERGRAVEL_MOST_TAPE + 1];
+static int32_t plan[FIBERGRAVEL_MOST_PLAN], multipliers[FIBERGRAVEL_MOST_MULTIPLIERS];
+static int64_t numbers[FIBERGRAVEL_READ_LENGTH], gap[FIBERGRAVEL_JUDGE_PLAN_LENGTH], answer[FIBERGRAVEL_SOLVE_LENGTH];
+static size_t tape_len, plan_len, multipliers_len;
+
+static void *nothing(void *unused)
+{
+    return unused;
+}
+
+static void *read_tape(void *unused)
+{
+    fibergravel_read(tape, tape_len, numbers);
+    return unused;
+}
+
+static void *solve(void *unused)
+{
+    fibergravel_solve(tape, tape_len, plan, plan_len, multipliers, multipliers_len, answer);
+    return unused;
+}
+
+static void *judge_plan(void *unused)
+{
+    fibergravel_judge_plan(tape, tape_len, plan, plan_len, multipliers, multipliers_len, gap);
+    return unused;
+}
+
+static void *judge_multipliers(void *unused)
+{
+    fibergravel_judge_multipliers(tape, tape_len, multipliers, multipliers_len);
+    return unused;
+}
+
+static const struct {
+    const char *name;
+    void *(*body)(void *);
+} threads[] = {
+    { "nothing", nothing },
+    { "read", read_tape },
+    { "solve", solve },
+    { "judge_plan", judge_plan },
+    { "judge_multipliers", judge_multipliers },
+};
+enum { THREADS = sizeof threads / sizeof threads[0] };
+
+static void fail(const char *what)
+{
+    perror(what);
+    exit(1);
+}
+
+/* The pthread calls answer an error's number. */
+static void check(int error, const char *what)
+{
+    if (error) {
+        errno = error;
+        fail(what);
+    }
+}
+
+/* Memory for a stack, above a page without any access. */
+static uint8_t *stack_memory(void)
+{
+    size_t page = (size_t)sysconf(_SC_PAGESIZE);
+    uint8_t *memory = mmap(NULL, page + FIBERGRAVEL_STACK, PROT_READ | PROT_WRITE, MAP_PRIVATE | MAP_ANONYMOUS, -1, 0);
+    if (memory == MAP_FAILED)
+        fail("mmap");
+    if (mprotect(memory, page, PROT_NONE) != 0)
+        fail("mprotect");
+    return memory + page;
+}
+
+/* Runs a thread on the stack to its end, and gives how many bytes of the stack it used. */
+static size_t bytes_used(uint8_t *stack, void *(*body)(void *))
+{
+    pthread_attr_t attributes;
+    pthread_t thread;
+    memset(stack, PAINT, FIBERGRAVEL_STACK);
+    check(pthread_attr_init(&attributes), "pthread_attr_init");
+    check(pthread_attr_setstack(&attributes, stack, FIBERGRAVEL_STACK), "pthread_attr_setstack");
+    check(pthread_create(&thread, &attributes, body, NULL), "pthread_create");
+    check(pthread_join(thread, NULL), "pthread_join");
+    pthread_attr_destroy(&attributes);
+    size_t unused = 0;
+    while (unused < FIBERGRAVEL_STACK && stack[unused] == PAINT)
+        unused++;
+    return FIBERGRAVEL_STACK - unused;
+}
+
+static void read_file(const char *name)
+{
+    FILE *file = fopen(name, "rb");
+    if (!file)
+        fail(name);
+    tape_len = fread(tape, 1, sizeof tape, file);
+    if (ferror(file))
+        fail(name);
+    fclose(file);
+    memset(numbers, 0, sizeof numbers);
+    fibergravel_read(tape, tape_len, numbers);
+    multipliers_len = (size_t)(numbers[FIBERGRAVEL_STEPS] * numbers[FIBERGRAVEL_STATES]);
+    plan_len = multipliers_len + (size_t)(numbers[FIBERGRAVEL_STEPS] * numbers[FIBERGRAVEL_INPUTS]);
+}
+
+int main(int argc, char **argv)
+{
+    uint8_t *stack = stack_memory();
+    size_t most[THREADS] = { 0 };
+    for (int i = 1; i < argc; i++) {
+        read_file(argv[i]);
+        for (int t = 0; t < THREADS; t++) {
+            size_t used = bytes_used(stack, threads[t].body);
+            if (used > most[t])
+                most[t] = used;
+        }
+    }
+    printf("bytes of stack used, of %d:", FIBERGRAVEL_STACK);
+    for (int t = 0; t < THREADS; t++)
+        printf(" %s %zu", threads[t].name, most[t]);
+    printf("\n");
+    return 0;
+}

@@ -23,6 +23,7 @@ conjugate-most p s d h =
     (le-by (square (pos 2 *ℤ p *ℤ d +ℤ s)) (square-nonneg (pos 2 *ℤ p *ℤ d +ℤ s))
     (ring 3 (λ p s d. K 4 ⊗ p ⊗ ⊝ (p ⊗ (d ⊗ d) ⊕ s ⊗ d) ⊕ (K 2 ⊗ p ⊗ d ⊕ s) ⊗ (K 2 ⊗ p ⊗ d ⊕ s) ≐ s ⊗ s) tt p s d))
 
+-- at weight 0 the tilt is s everywhere
 weightless : (t : Term) (s v : ℤ) → t .penalty ≡ pos 0 → tilt t s v ≡ s
 unfolding tilt
 weightless t s v e = rw e (ring 2 (λ d s. K 2 ⊗ K 0 ⊗ d ⊕ s ≐ s) tt (v -ℤ t .reference) s)
@@ -66,6 +67,7 @@ module _ (t : Term) (s v : ℤ) where
             let high = weightless t s (t .high) none in
             omega (arith, order)
 
+    -- so it is at least what it is there
     rises : (a : ℤ) → pos 0 ≼ (v -ℤ a) *ℤ tilt t s a → pos 0 ≼ cost t v +ℤ s *ℤ v -ℤ (cost t a +ℤ s *ℤ a)
     rises a h = le-trans (mul-nonneg weighed (square-nonneg (v -ℤ a))) (above a h)
 

@@ -104,7 +104,7 @@ founded-on t ok y =
     by-test (λ j. Founded j t) (wrongMultipliersLength t y) (λ _. tt)
     (λ _. by-test (λ j. Founded j t) (wrongMultipliers y) (λ _. tt)
     (λ _. by-test (λ j. Founded j t) (ltZ (ceiling (problemOf t)) (floor (problemOf t) (multipliersOf (t .n) y)))
-    (λ e. record { none = λ rival r. impossible t ok y rival (omega (arith, order)) r }) (λ _. tt)))
+    (λ e. record { none = λ rival r. impossible t ok y rival e r }) (λ _. tt)))
 
 -- ---- The answers of the calls
 

@@ -38,12 +38,12 @@ square-between a b c h k = go (le-or-lt (pos 0) c)
         let n : c ≼ pos 0 = omega (arith, order) in
         le-trans (square-le c a (mul-nonpos m n)) (larger-both (square a) (square b) .0)
 
-pub cost-most : (t : Term) (v : ℤ) → pos 1 ≼ t .penalty → Within t v → cost t v ≼ most t
+pub cost-most : (t : Term) (v : ℤ) → pos 0 ≼ t .penalty → Within t v → cost t v ≼ most t
 unfolding cost most
 cost-most t v weighed within =
     let h = within .0 in
     let k = within .1 in
-    mul-le (t .penalty) (omega (arith, order))
+    mul-le (t .penalty) weighed
     (square-between (t .low -ℤ t .reference) (t .high -ℤ t .reference) (v -ℤ t .reference)
     (omega (arith, order, minus (t .low) (t .reference), minus v (t .reference)))
     (omega (arith, order, minus (t .high) (t .reference), minus v (t .reference))))

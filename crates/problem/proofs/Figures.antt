@@ -12,7 +12,7 @@ use Rattle.integer.specs.Tests.{outside}
 use Rattle.commands.specs.Format.{sizeCommand, stateCommand, inputCommand, driftCommand, columnCommand, startCommand, roundsCommand, decoded, wrongSize, beyond, wrongColumn, wrong}
 use Rattle.tape.specs.declared.Tape.{Tape}
 use Rattle.tape.specs.Reading.{obeySize, obeyEntry, lacks, absent, obeyEnd, obey, next, readFrom, reading}
-use Rattle.problem.specs.Model.{problemOf, planOf, stateAt, modelSum, rounded, sumAt}
+use Rattle.problem.specs.Model.{problemOf, planOf, multipliersOf, stateAt, modelSum, rounded, sumAt}
 use Rattle.problem.specs.Cost.{total, cost, planCost, costOf}
 use Rattle.problem.specs.Dual.{inputSlope, carried, stateSlope, conjugate, tilt, piece, pieces, constant, sizes, floor, floorOf, gapOf, larger, most, ceiling, shows}
 
@@ -61,9 +61,9 @@ table =
     ∷ (costOf F (pos 3 ∷ pos 102 ∷ []), pos 299008) ∷ (gapOf F (pos 3 ∷ pos 102 ∷ []) (negsuc 15 ∷ []), pos 4096)
     -- M6, and beside it a floor below 0, which stays below 0
     ∷ (floorOf F (pos 0 ∷ []), pos 0) ∷ (floorOf F (pos 16 ∷ []), negsuc 950271)
-    -- M9
+    -- M9: the floor, the ceiling, and 1 for shown
     ∷ (floorOf G (negsuc 99 ∷ []), pos 48435200) ∷ (ceiling (problemOf G), pos 16793600)
-    ∷ (cond (shows (problemOf G) (λ k i. negsuc 99)) (pos 1) (pos 0), pos 1)
+    ∷ (cond (shows (problemOf G) (multipliersOf 1 (negsuc 99 ∷ []))) (pos 1) (pos 0), pos 1)
     -- M10
     ∷ (piece (problemOf G .stateTerm 0 0) (pos 409600), pos 92160000) ∷ (piece (problemOf G .stateTerm 0 0) (pos 409599), pos 92159800)
     ∷ []

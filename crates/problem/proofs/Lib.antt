@@ -3,6 +3,8 @@ pub mod Total
 pub mod Lagrangian
 pub mod Piece
 pub mod Ceiling
+pub mod Relaxed
+pub mod Bound
 pub mod Duality
 pub mod Congruence
 pub mod Figures

@@ -1,28 +1,29 @@
 -- How large the sums of products are that slopes, residuals and the floor's constant are made of.
-use Prim.Native.Nat.{ℕ, zero, suc, _+_, _*_, _-_, _≤_}
-use mathlib.Core.Path.{_≡_, ap}
+use Prim.Native.Nat.{ℕ, zero, suc, _+_, _*_, _-_, _^_, _<_, _≤_}
+use mathlib.Core.Path.{_≡_, _∙_, ap}
 use mathlib.Core.Bool.{Bool, true, false, cond}
 use mathlib.Core.List.{List, []}
 use native.Mathlib.Omega.{arith}
 use native.Mathlib.Nat.{le-refl, le-trans}
 use lib.Dec.{ltb}
 use lib.IntN.{ℤ, pos, negsuc, natAbs, _+ℤ_, _-ℤ_, _*ℤ_}
+use lib.Signed.{mag}
 use Rattle.integer.specs.Places.{at, Bounded, Steps}
 use Rattle.integer.specs.Sum.{sum}
-use Rattle.integer.proofs.Sizes.{size-add, size-sub, size-mul}
+use Rattle.integer.proofs.Sizes.{size-add, size-sub, size-mul, called, back}
 use Rattle.integer.proofs.Sum.{sum-cong, size-sum}
 use Rattle.integer.proofs.Places.{steps-bounded}
 use Rattle.tape.specs.Ranges.{mostEntry, mostDrift, mostNumber, mostMultiplier}
 use Rattle.problem.specs.Model.{stateAt, modelSum}
-use Rattle.problem.specs.Dual.{inputSlope, carried, stateSlope, constant, sizes}
+use Rattle.problem.specs.Dual.{inputSlope, adjoint, carried, stateSlope, constant, sizes}
 use Rattle.evaluate.specs.Padded.{stateMatrix, inputMatrix, padded, paddedPlan, byPlace, paddedProblem}
 
 -- ---- Sums of products
 
--- the same places, counted otherwise
-pub sum-places : (n : ℕ) (f : ℕ → ℤ) (l : List ℤ) (g h : ℕ → ℕ) → ((q : ℕ) → g q ≡ h q) →
-    sum n (λ q. f q *ℤ at l (g q)) ≡ sum n (λ q. f q *ℤ at l (h q))
-sum-places n f l g h e = sum-cong n _ _ (λ q _. ap (λ (p : ℕ). f q *ℤ at l p) (e q))
+-- what `dot` gave, r, with the places counted otherwise
+pub dotted : {r : ℤ} (n : ℕ) (f : ℕ → ℤ) (l : List ℤ) (g h : ℕ → ℕ) → mag r < 2 ^ 63 → r ≡ sum n (λ q. f q *ℤ at l (g q)) →
+    ((q : ℕ) → g q ≡ h q) → back r ≡ sum n (λ q. f q *ℤ at l (h q))
+dotted {r} n f l g h ok e same = called r ok ∙ e ∙ sum-cong n _ _ (λ q _. ap (λ (p : ℕ). f q *ℤ at l p) (same q))
 
 pub size-product-at : {A B : ℕ} {x y : List ℤ} → Bounded A x → Bounded B y → (p q : ℕ) → natAbs (at x p *ℤ at y q) ≤ A * B
 size-product-at {x = x} {y = y} hx hy p q = size-mul (at x p) (at y q) (hx .each p) (hy .each q)
@@ -38,13 +39,18 @@ pub size-inputSlope : {b y : List ℤ} → Bounded mostEntry b → Bounded mostM
 unfolding inputSlope
 size-inputSlope hb hy k j = size-products hy hb 6 (λ i. 6 * k + i) (λ i. 4 * i + j)
 
-pub size-carried : {a y : List ℤ} → Bounded mostEntry a → Bounded mostMultiplier y → (horizon k i : ℕ) →
+pub size-adjoint : {a y : List ℤ} → Bounded mostEntry a → Bounded mostMultiplier y → (k j : ℕ) →
+    natAbs (adjoint 6 (stateMatrix a) (padded y) k j) ≤ 1649267441664
+unfolding adjoint
+size-adjoint ha hy k j = size-products hy ha 6 (λ q. 6 * k + q) (λ q. 6 * q + j)
+
+size-carried : {a y : List ℤ} → Bounded mostEntry a → Bounded mostMultiplier y → (horizon k i : ℕ) →
     natAbs (carried 6 horizon (stateMatrix a) (padded y) k i) ≤ 1649267441664
 unfolding carried
 size-carried {a} {y} ha hy horizon k i = go (ltb (k + 1) horizon)
   where
-    go : (t : Bool) → natAbs (cond t (sum 6 (λ q. padded y (k + 1) q *ℤ stateMatrix a q i)) (pos 0)) ≤ 1649267441664
-    go true = size-products hy ha 6 (λ q. 6 * (k + 1) + q) (λ q. 6 * q + i)
+    go : (t : Bool) → natAbs (cond t (adjoint 6 (stateMatrix a) (padded y) (k + 1) i) (pos 0)) ≤ 1649267441664
+    go true = size-adjoint ha hy (k + 1) i
     go false = omega arith
 
 pub size-scaled : {y : List ℤ} → Bounded mostMultiplier y → (p : ℕ) → natAbs (negsuc 4095 *ℤ at y p) ≤ 68719476736
@@ -124,31 +130,28 @@ residuals-bounded horizon ha hb hw hs hv steps =
 
 -- ---- The constant
 
--- what step k's drifts add, and what state i of the start adds
+-- what step k's drifts add, and what state j of the start adds
 abbrev pub driftAt : List ℤ → List ℤ → ℕ → ℤ
 driftAt drift y k = sum 6 (λ i. padded y k i *ℤ at drift i)
 
 abbrev pub startedAt : List ℤ → List ℤ → List ℤ → ℕ → ℤ
-startedAt a start y i = sum 6 (λ j. padded y 0 i *ℤ stateMatrix a i j *ℤ at start j)
+startedAt a start y j = adjoint 6 (stateMatrix a) (padded y) 0 j *ℤ at start j
 
-pub size-drifts : {drift y : List ℤ} → Bounded mostDrift drift → Bounded mostMultiplier y → (n : ℕ) →
-    natAbs (sum n (driftAt drift y)) ≤ n * 1688849860263936
-size-drifts hw hy n = size-sum n 1688849860263936 _ (λ k _. size-products hy hw 6 (λ i. 6 * k + i) (λ i. i))
+pub size-driftAt : {drift y : List ℤ} → Bounded mostDrift drift → Bounded mostMultiplier y → (k : ℕ) → natAbs (driftAt drift y k) ≤ 1688849860263936
+size-driftAt hw hy k = size-products hy hw 6 (λ i. 6 * k + i) (λ i. i)
 
-module _ {a start y : List ℤ} (ha : Bounded mostEntry a) (hs : Bounded mostNumber start) (hy : Bounded mostMultiplier y) where
-  pub size-startedAt : (i : ℕ) → natAbs (startedAt a start y i) ≤ 32985348833280000
-  size-startedAt i =
-      size-sum 6 5497558138880000 _
-      (λ j _. size-mul (padded y 0 i *ℤ stateMatrix a i j) (at start j) (size-product-at hy ha (6 * 0 + i) (6 * i + j)) (hs .each j))
-
-  pub size-started : (n : ℕ) → natAbs (sum n (startedAt a start y)) ≤ n * 32985348833280000
-  size-started n = size-sum n 32985348833280000 _ (λ i _. size-startedAt i)
+pub size-startedAt : {a start y : List ℤ} → Bounded mostEntry a → Bounded mostNumber start → Bounded mostMultiplier y → (j : ℕ) →
+    natAbs (startedAt a start y j) ≤ 32985348833280000
+size-startedAt {a} {start} {y} ha hs hy j = size-mul (adjoint 6 (stateMatrix a) (padded y) 0 j) (at start j) (size-adjoint ha hy 0 j) (hs .each j)
 
 pub size-constant : {a drift start y : List ℤ} (N : ℕ) → N ≤ 12 → Bounded mostEntry a → Bounded mostDrift drift → Bounded mostNumber start → Bounded mostMultiplier y →
     natAbs (constant (paddedProblem N a [] drift start [] [] [] []) (padded y)) ≤ 218178291322847232
 unfolding constant
 size-constant {a} {drift} {start} {y} N l ha hw hs hy =
-    le-trans (size-add (sum N (driftAt drift y)) (sum 6 (startedAt a start y)) (size-drifts hw hy N) (size-started ha hs hy 6)) (omega arith)
+    le-trans
+    (size-add (sum N (driftAt drift y)) (sum 6 (startedAt a start y))
+    (size-sum N 1688849860263936 _ (λ k _. size-driftAt hw hy k)) (size-sum 6 32985348833280000 _ (λ j _. size-startedAt ha hs hy j)))
+    (omega arith)
 
 pub size-sizes : {y : List ℤ} (N : ℕ) → N ≤ 12 → Bounded mostMultiplier y → natAbs (sizes 6 N (padded y)) ≤ 1207959552
 unfolding sizes

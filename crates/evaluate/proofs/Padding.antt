@@ -14,7 +14,7 @@ use Rattle.tape.specs.declared.Tape.{Tape}
 use Rattle.tape.specs.Legal.{Legal}
 use Rattle.problem.specs.Model.{Term, Problem, Plan, problemOf, modelSum}
 use Rattle.problem.specs.Cost.{total, cost, planCost}
-use Rattle.problem.specs.Dual.{inputSlope, carried, stateSlope, tilt, piece, pieces, constant, sizes, floor, larger, most, ceiling}
+use Rattle.problem.specs.Dual.{inputSlope, adjoint, carried, stateSlope, tilt, piece, pieces, constant, sizes, floor, larger, most, ceiling}
 use Rattle.problem.proofs.Total.{total-cong}
 use Rattle.evaluate.specs.Padded.{stateMatrix, inputMatrix, paddedProblem}
 use Rattle.evaluate.specs.Terms.{blankTerm, TermsOf}
@@ -85,21 +85,29 @@ module _ (t : Tape) (legal : Legal t) (penalty low high reference : List ℤ) (t
     unfolding inputSlope
     inputSlope-padded k j = products-padded k (λ i. problemOf t .B i j)
 
+    adjoint-padded : (k j : ℕ) → adjoint 6 (problemOf t .A) y k j ≡ adjoint (t .n) (problemOf t .A) y k j
+    unfolding adjoint
+    adjoint-padded k j = products-padded k (λ i. problemOf t .A i j)
+
     pub stateSlope-padded : (k i : ℕ) → stateSlope 6 (t .horizon) (problemOf t .A) y k i ≡ stateSlope (t .n) (t .horizon) (problemOf t .A) y k i
     unfolding stateSlope carried
     stateSlope-padded k i =
-        ap (λ (s : ℤ). negsuc 4095 *ℤ y k i +ℤ cond (ltb (k + 1) (t .horizon)) s (pos 0)) (products-padded (k + 1) (λ q. problemOf t .A q i))
+        ap (λ (s : ℤ). negsuc 4095 *ℤ y k i +ℤ cond (ltb (k + 1) (t .horizon)) s (pos 0)) (adjoint-padded (k + 1) i)
 
     -- a number beyond the sizes has slope 0
     pub inputSlope-none : (k j : ℕ) → t .m ≤ j → j < 4 → inputSlope 6 (problemOf t .B) y k j ≡ pos 0
     unfolding inputSlope
     inputSlope-none k j h l = products-none k _ (λ i. legal .blankB i j l (inr h))
 
+    adjoint-none : (k j : ℕ) → t .n ≤ j → j < 6 → adjoint 6 (problemOf t .A) y k j ≡ pos 0
+    unfolding adjoint
+    adjoint-none k j h l = products-none k _ (λ i. legal .blankA i j l (inr h))
+
     pub stateSlope-none : (k i : ℕ) → t .n ≤ i → i < 6 → stateSlope 6 (t .horizon) (problemOf t .A) y k i ≡ pos 0
     unfolding stateSlope carried
     stateSlope-none k i h l =
         ap₂ (λ (v s : ℤ). negsuc 4095 *ℤ v +ℤ cond (ltb (k + 1) (t .horizon)) s (pos 0)) (blank k i h l)
-        (products-none (k + 1) _ (λ q. legal .blankA q i l (inr h)))
+        (adjoint-none (k + 1) i h l)
         ∙ go (ltb (k + 1) (t .horizon))
       where
         go : (b : Bool) → negsuc 4095 *ℤ pos 0 +ℤ cond b (pos 0) (pos 0) ≡ pos 0
@@ -117,8 +125,8 @@ module _ (t : Tape) (legal : Legal t) (penalty low high reference : List ℤ) (t
     unfolding constant
     constant-padded =
         ap₂ (λ (p q : ℤ). p +ℤ q) (sum-cong (t .horizon) _ _ (λ k _. products-padded k (at (t .drift))))
-        (sum-pad (t .n) 6 _ (legal .states .1) (λ i h l. sum-zero 6 _ (λ j _. simp (blank 0 i h l, zero-*ℤ)))
-        ∙ sum-cong (t .n) _ _ (λ i _. sum-pad (t .n) 6 _ (legal .states .1) (λ j h _. rw (legal .blankStart j h, *ℤ-zero))))
+        (sum-products (t .n) 6 _ (at (t .start)) (legal .states .1) (adjoint-none 0)
+        ∙ sum-cong (t .n) _ _ (λ j _. ap (λ (s : ℤ). s *ℤ at (t .start) j) (adjoint-padded 0 j)))
 
     sizes-padded : sizes 6 (t .horizon) y ≡ sizes (t .n) (t .horizon) y
     unfolding sizes

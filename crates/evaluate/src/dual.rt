@@ -7,7 +7,7 @@ ghost use lib.IntN.{pos, natAbs, _+ℤ_, _-ℤ_, _*ℤ_};
 ghost use Rattle.integer.specs.Places.{at, Bounded, Stretch, Steps};
 ghost use Rattle.integer.specs.Sum.{sum};
 ghost use Rattle.tape.specs.Ranges.{mostEntry, mostDrift, mostNumber, mostMultiplier};
-ghost use Rattle.problem.specs.Dual.{inputSlope, carried, stateSlope, piece, constant, sizes, floor};
+ghost use Rattle.problem.specs.Dual.{inputSlope, adjoint, carried, stateSlope, piece, constant, sizes, floor};
 ghost use Rattle.evaluate.specs.Padded.{stateMatrix, inputMatrix, padded, byPlace, termAt, termOf, paddedProblem};
 ghost use Rattle.evaluate.specs.Ranges.{Ranged, Tables};
 use crate::cost::cost_of;
@@ -26,13 +26,21 @@ fn input_slopes(s: &mut [i64; 120], b: &[i64; 24], y: &[i64; 72], k: usize)
     }
 }
 
+// The sum over q of y(k,q) A(q,j).
+fn adjoint_at(a: &[i64; 36], y: &[i64; 72], k: usize, j: usize) -> i64
+    requires { ⌜ (k < 12) × (j < 6) × Bounded mostEntry (now a) × Bounded mostMultiplier (now y) ⌝ }
+    ensures { λ r. ⌜ r ≡ adjoint 6 (stateMatrix (now (a .entry))) (padded (now (y .entry))) k j ⌝ }
+{
+    dot(y, 6 * k, a, j, 6, 6)
+}
+
 // What A adds to the slope of x(k+1,i).
 fn carried_slope(a: &[i64; 36], y: &[i64; 72], k: usize, i: usize, horizon: usize) -> i64
     requires { ⌜ (i < 6) × (k < horizon) × (horizon ≤ 12) × Bounded mostEntry (now a) × Bounded mostMultiplier (now y) ⌝ }
     ensures { λ r. ⌜ r ≡ carried 6 horizon (stateMatrix (now (a .entry))) (padded (now (y .entry))) k i ⌝ }
 {
     if k + 1 < horizon {
-        return dot(y, 6 * (k + 1), a, i, 6, 6);
+        return adjoint_at(a, y, k + 1, i);
     }
     0
 }
@@ -135,16 +143,16 @@ fn drifts(drift: &[i64; 6], y: &[i64; 72], horizon: usize) -> i64
     total
 }
 
-// The sum of y(0,i) A(i,j) x(0,j) over i and j.
+// The sum of y(0,i) A(i,j) x(0,j) over i and j, over i first.
 fn started<'a>(a: &'a [i64; 36], start: &'a [i64; 6], y: &'a [i64; 72]) -> i64
     requires { ⌜ Bounded mostEntry (now a) × Bounded mostNumber (now start) × Bounded mostMultiplier (now y) ⌝ }
-    ensures { λ r. ⌜ r ≡ sum 6 (λ i. sum 6 (λ j. padded (now (y .entry)) 0 i *ℤ stateMatrix (now (a .entry)) i j *ℤ at (now (start .entry)) j)) ⌝ }
+    ensures { λ r. ⌜ r ≡ sum 6 (λ j. adjoint 6 (stateMatrix (now (a .entry))) (padded (now (y .entry))) 0 j *ℤ at (now (start .entry)) j) ⌝ }
 {
     let mut total: i64 = 0;
-    let mut i: usize = 0;
-    while i < 6 {
-        total += y[i] * dot(a, 6 * i, start, 0, 1, 6);
-        i += 1;
+    let mut j: usize = 0;
+    while j < 6 {
+        total += adjoint_at(a, y, 0, j) * start[j];
+        j += 1;
     }
     total
 }

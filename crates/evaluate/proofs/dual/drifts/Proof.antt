@@ -1,17 +1,15 @@
-use Prim.Native.Nat.{ℕ, _+_, _*_, _-_, _≤_}
-use mathlib.Core.Path.{_≡_, sym, _∙_}
+use Prim.Native.Nat.{_+_, _*_, _-_, _≤_}
+use mathlib.Core.Path.{_≡_, sym}
 use native.Mathlib.Omega.{arith}
-use denote.Ref.{now}
-use lib.IntN.{ℤ, _+ℤ_}
+use lib.IntN.{_+ℤ_}
 use mir.Syntax.{w64}
-use mir.Val.{SFits, toZ, ofZ}
-use mir.Facts.{toZ-ofZ}
+use mir.Val.{toZ}
 use borrow.Author.Needs.{needs}
 use Rattle.integer.specs.Sum.{sum}
-use Rattle.integer.proofs.Sizes.{called, fits-by}
-use Rattle.integer.proofs.Sum.{sum-none, sum-last}
+use Rattle.integer.proofs.Sizes.{back, Formed}
+use Rattle.integer.proofs.Sum.{sum-none, added}
 use Rattle.evaluate.specs.Padded.{padded}
-use Rattle.evaluate.proofs.LinearSizes.{sum-places, driftAt, size-drifts}
+use Rattle.evaluate.proofs.LinearSizes.{dotted, driftAt, size-driftAt}
 use Rattle.evaluate.proofs.dual.drifts.Statement.{statement}
 use Rattle.evaluate.proofs.dual.drifts.Tie as tie
 
@@ -32,29 +30,22 @@ dot-requires c κs =
     let p = c .before .before .before .before .pre in
     (omega arith, omega (arith, c .before .dot-arg .given), record { each = λ q h. omega (arith, c .dot-arg2 .given) }, p .2, p .1)
 
-module _ (c : tie.After-dot Inv-loop μ-loop) where
-  abbrev s : tie.Start Inv-loop μ-loop
-  s = c .before .before .before .before .before
+abbrev turn : tie.After-dot Inv-loop μ-loop → tie.In-loop Inv-loop μ-loop
+turn c = c .before .before .before
 
-  abbrev k : ℕ
-  k = c .before .before .before .before .loop .k
-
-  abbrev t : ℕ → ℤ
-  t = driftAt (now (s .args .drift)) (now (s .args .y))
-
-  dot-is : toZ w64 (ofZ w64 (c .dot .result)) ≡ t k
-  dot-is =
-      called (c .dot .result) (c .dot .ok) ∙ c .dot .ensures
-      ∙ sum-places 6 (padded (now (s .args .y)) k) (now (s .args .drift)) (λ i. 0 + 1 * i) (λ i. i) (λ i. omega arith)
-
-  next-is : toZ w64 (c .before .before .before .before .loop .total) +ℤ t k ≡ sum (k + 1) t
-  next-is = rw (c .before .before .before .before .loop .inv .1) (sym (sum-last k t))
-
-  next-fits : SFits w64 (sum (k + 1) t)
-  next-fits = fits-by (sum (k + 1) t) (size-drifts (s .pre .1) (s .pre .2) (k + 1)) (omega arith)
+next : (c : tie.After-dot Inv-loop μ-loop) →
+    let l = turn c .before .loop in
+    let a = turn c .before .before .args in
+    Formed (toZ w64 (l .total) +ℤ back (c .dot .result)) (sum (l .k + 1) (driftAt (a .drift .now) (a .y .now)))
+next c =
+    let l = turn c .before .loop in
+    let a = turn c .before .before .args in
+    let h = turn c .before .before .pre in
+    added (l .k) _ (λ k _. size-driftAt (h .1) (h .2) k) (omega arith) (l .inv .1)
+    (dotted 6 (padded (a .y .now) (l .k)) (a .drift .now) (λ i. 0 + 1 * i) (λ i. i) (c .dot .ok) (c .dot .ensures) (λ i. omega arith))
 
 add-total : tie.Need-add-total Inv-loop μ-loop
-add-total c = simp (dot-is c, next-is c) (next-fits c)
+add-total c = next c .fits
 
 add-k : tie.Need-add-k Inv-loop μ-loop
 add-k c = search needs
@@ -63,7 +54,7 @@ loop-less : tie.Need-loop-less Inv-loop μ-loop
 loop-less c = search needs
 
 loop-again : tie.Need-loop-again Inv-loop μ-loop
-loop-again c = (omega arith, simp (dot-is c, next-is c, toZ-ofZ (next-fits c)))
+loop-again c = (omega arith, next c .is)
 
 returns : tie.Need-returns Inv-loop μ-loop
 returns c = let e : c .before .loop .k ≡ c .before .before .args .horizon = omega arith in rw e at (c .before .loop .inv .1)

@@ -1,14 +1,14 @@
 use Prim.Native.Nat.{_+_, _*_, _-_, _≤_}
-use mathlib.Core.Path.{_≡_, _∙_}
+use mathlib.Core.Path.{_≡_}
 use native.Mathlib.Omega.{arith}
 use denote.Ref.{now}
 use borrow.Author.Needs.{needs}
 use Rattle.integer.specs.Places.{Stretch}
-use Rattle.integer.proofs.Sizes.{called, wider}
+use Rattle.integer.proofs.Sizes.{wider}
 use Rattle.integer.proofs.Places.{stretch-none, stretch-store}
 use Rattle.problem.specs.Dual.{inputSlope}
 use Rattle.evaluate.specs.Padded.{inputMatrix, padded}
-use Rattle.evaluate.proofs.LinearSizes.{sum-places}
+use Rattle.evaluate.proofs.LinearSizes.{dotted}
 use Rattle.evaluate.proofs.dual.input_slopes.Statement.{statement}
 use Rattle.evaluate.proofs.dual.input_slopes.Tie as tie
 
@@ -54,8 +54,7 @@ loop-again c =
     let l = c .before .before .before .before .loop in (
       omega arith,
       stretch-store _ _ _ _ _ _ (omega arith) (l .inv .1)
-          (called (c .dot .result) (c .dot .ok) ∙ c .dot .ensures
-          ∙ sum-places 6 (padded (now (s .y)) (s .k)) (now (s .b)) (λ q. l .j + 4 * q) (λ q. 4 * q + l .j) (λ q. omega arith)),
+          (dotted 6 (padded (now (s .y)) (s .k)) (now (s .b)) (λ q. l .j + 4 * q) (λ q. 4 * q + l .j) (c .dot .ok) (c .dot .ensures) (λ q. omega arith)),
     )
 
 returns : tie.Need-returns Inv-loop μ-loop

@@ -1,12 +1,12 @@
 use Prim.Native.Nat.{suc, _+_, _*_, _-_}
-use mathlib.Core.Path.{_≡_, _∙_}
+use mathlib.Core.Path.{_≡_}
 use native.Mathlib.Omega.{arith}
 use denote.Ref.{now}
 use borrow.Author.Needs.{needs}
-use Rattle.integer.proofs.Sizes.{called, wider}
+use Rattle.integer.proofs.Sizes.{wider}
 use Rattle.problem.specs.Model.{stateAt}
 use Rattle.evaluate.specs.Padded.{stateMatrix}
-use Rattle.evaluate.proofs.LinearSizes.{sum-places}
+use Rattle.evaluate.proofs.LinearSizes.{dotted}
 use Rattle.evaluate.proofs.model.from_states.Statement.{statement}
 use Rattle.evaluate.proofs.model.from_states.Tie as tie
 
@@ -29,8 +29,7 @@ returns c =
     let s = c .before .before .before .before .args in
     let e : s .k ≡ 0 = c .before .before .before .if1 .taken in
     rw e
-    (called (c .dot .result) (c .dot .ok) ∙ c .dot .ensures
-    ∙ sum-places 6 (stateMatrix (now (s .a)) (s .i)) (now (s .start)) (λ j. 0 + 1 * j) (λ j. j) (λ j. omega arith))
+    (dotted 6 (stateMatrix (now (s .a)) (s .i)) (now (s .start)) (λ j. 0 + 1 * j) (λ j. j) (c .dot .ok) (c .dot .ensures) (λ j. omega arith))
 
 mul-dot-2 : tie.Need-mul-dot-2
 mul-dot-2 c = search needs
@@ -57,8 +56,8 @@ returns-2 c =
     let s = c .before .before .before .before .args in
     let e : s .k ≡ suc (s .k - 1) = omega arith in
     rw e
-    (called (c .dot2 .result) (c .dot2 .ok) ∙ c .dot2 .ensures
-    ∙ sum-places 6 (stateMatrix (now (s .a)) (s .i)) (now (s .v)) (λ j. 10 * s .k - 6 + 1 * j) (λ j. 10 * (s .k - 1) + (4 + j)) (λ j. omega arith))
+    (dotted 6 (stateMatrix (now (s .a)) (s .i)) (now (s .v)) (λ j. 10 * s .k - 6 + 1 * j) (λ j. 10 * (s .k - 1) + (4 + j)) (c .dot2 .ok)
+    (c .dot2 .ensures) (λ j. omega arith))
 
 pub from-states-spec : {M : Type 1} → statement M
 from-states-spec =

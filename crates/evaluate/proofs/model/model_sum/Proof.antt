@@ -11,7 +11,7 @@ use Rattle.integer.specs.Places.{at}
 use Rattle.integer.proofs.Sizes.{called, fits-by, wider}
 use Rattle.problem.specs.Model.{modelSum}
 use Rattle.evaluate.specs.Padded.{inputMatrix}
-use Rattle.evaluate.proofs.LinearSizes.{sum-places, fromStates, fromInputs, size-both, size-model}
+use Rattle.evaluate.proofs.LinearSizes.{dotted, fromStates, fromInputs, size-both, size-model}
 use Rattle.evaluate.proofs.model.model_sum.Statement.{statement}
 use Rattle.evaluate.proofs.model.model_sum.Tie as tie
 
@@ -49,9 +49,8 @@ module _ (c : tie.After-dot) where
 
   inputs-is : toZ w64 (ofZ w64 (c .dot .result)) ≡ inputs
   inputs-is =
-      called (c .dot .result) (c .dot .ok) ∙ c .dot .ensures
-      ∙ sum-places 4 (inputMatrix (now (s .args .b)) (s .args .i)) (now (s .args .v))
-      (λ j. 10 * s .args .k + 1 * j) (λ j. 10 * s .args .k + j) (λ j. omega arith)
+      dotted 4 (inputMatrix (now (s .args .b)) (s .args .i)) (now (s .args .v)) (λ j. 10 * s .args .k + 1 * j) (λ j. 10 * s .args .k + j) (c .dot .ok)
+      (c .dot .ensures) (λ j. omega arith)
 
   both-fits : SFits w64 (states +ℤ inputs)
   both-fits =

@@ -17,6 +17,7 @@ use Rattle.tape.specs.Ranges.{mostEntry, mostDrift, mostNumber, mostMultiplier}
 use Rattle.problem.specs.Model.{stateAt, modelSum}
 use Rattle.problem.specs.Dual.{inputSlope, adjoint, carried, stateSlope, constant, sizes}
 use Rattle.evaluate.specs.Padded.{stateMatrix, inputMatrix, padded, paddedPlan, byPlace, paddedProblem}
+use Rattle.evaluate.specs.Ranges.{mostSlope, mostForcing, mostSum, mostResidual}
 
 -- ---- Sums of products
 
@@ -57,7 +58,7 @@ pub size-scaled : {y : List ℤ} → Bounded mostMultiplier y → (p : ℕ) → 
 size-scaled {y} hy p = size-mul (negsuc 4095) (at y p) (le-refl 4096) (hy .each p)
 
 pub size-stateSlope : {a y : List ℤ} → Bounded mostEntry a → Bounded mostMultiplier y → (horizon k i : ℕ) →
-    natAbs (stateSlope 6 horizon (stateMatrix a) (padded y) k i) ≤ 1717986918400
+    natAbs (stateSlope 6 horizon (stateMatrix a) (padded y) k i) ≤ mostSlope
 unfolding stateSlope
 size-stateSlope {a} {y} ha hy horizon k i =
     size-add (negsuc 4095 *ℤ padded y k i) (carried 6 horizon (stateMatrix a) (padded y) k i)
@@ -77,7 +78,7 @@ abbrev pub slopeAt : List ℤ → List ℤ → List ℤ → ℕ → ℕ → ℕ 
 slopeAt a b y horizon = byPlace (inputSlope 6 (inputMatrix b) (padded y)) (stateSlope 6 horizon (stateMatrix a) (padded y))
 
 pub slopes-bounded : {a b y s : List ℤ} (horizon : ℕ) → Bounded mostEntry a → Bounded mostEntry b → Bounded mostMultiplier y →
-    Steps 10 horizon (slopeAt a b y horizon) s → Bounded 1717986918400 s
+    Steps 10 horizon (slopeAt a b y horizon) s → Bounded mostSlope s
 slopes-bounded horizon ha hb hy steps =
     steps-bounded 10 horizon _ _ (omega arith) steps
     (λ k c _ _. size-byPlace _ _ (λ k j. le-trans (size-inputSlope hb hy k j) (omega arith)) (size-stateSlope ha hy horizon) k c)
@@ -106,7 +107,7 @@ residualAt a b drift start v k i = modelAt a b drift start v k i -ℤ pos 4096 *
 pub size-units : {B : ℕ} {l : List ℤ} → Bounded B l → (p : ℕ) → natAbs (pos 4096 *ℤ at l p) ≤ 4096 * B
 size-units {l = l} b p = size-mul (pos 4096) (at l p) (le-refl 4096) (b .each p)
 
-module _ {a b drift start v : List ℤ} (ha : Bounded mostEntry a) (hb : Bounded mostEntry b) (hw : Bounded mostDrift drift)
+module _ {a b drift start v : List ℤ} (ha : Bounded mostEntry a) (hb : Bounded mostEntry b) (hw : Bounded mostForcing drift)
     (hs : Bounded mostNumber start) (hv : Bounded mostNumber v) (k i : ℕ) where
   pub size-both : natAbs (fromStates a start v k i +ℤ fromInputs b v k i) ≤ 3276800000
   size-both =
@@ -115,16 +116,16 @@ module _ {a b drift start v : List ℤ} (ha : Bounded mostEntry a) (hb : Bounded
       (λ j _. size-mul (stateMatrix a i j) (stateAt (at start) (paddedPlan v .x) k j) (ha .each (6 * i + j)) (size-stateAt hs hv k j)))
       (size-products hb hv 4 (λ j. 4 * i + j) (λ j. 10 * k + j))
 
-  pub size-model : natAbs (modelAt a b drift start v k i) ≤ 3293577216
+  pub size-model : natAbs (modelAt a b drift start v k i) ≤ mostSum
   unfolding modelSum
   size-model = size-add (fromStates a start v k i +ℤ fromInputs b v k i) (at drift i) size-both (hw .each i)
 
-  pub size-residual : natAbs (residualAt a b drift start v k i) ≤ 3375497216
+  pub size-residual : natAbs (residualAt a b drift start v k i) ≤ mostResidual
   size-residual = size-sub (modelAt a b drift start v k i) (pos 4096 *ℤ paddedPlan v .x k i) size-model (size-units hv (10 * k + (4 + i)))
 
 -- what `residuals` gives
-pub residuals-bounded : {a b drift start v e : List ℤ} (horizon : ℕ) → Bounded mostEntry a → Bounded mostEntry b → Bounded mostDrift drift →
-    Bounded mostNumber start → Bounded mostNumber v → Steps 6 horizon (residualAt a b drift start v) e → Bounded 3375497216 e
+pub residuals-bounded : {a b drift start v e : List ℤ} (horizon : ℕ) → Bounded mostEntry a → Bounded mostEntry b → Bounded mostForcing drift →
+    Bounded mostNumber start → Bounded mostNumber v → Steps 6 horizon (residualAt a b drift start v) e → Bounded mostResidual e
 residuals-bounded horizon ha hb hw hs hv steps =
     steps-bounded 6 horizon _ _ (omega arith) steps (λ k i _ _. size-residual ha hb hw hs hv k i)
 

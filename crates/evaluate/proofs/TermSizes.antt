@@ -21,26 +21,23 @@ use Rattle.problem.specs.Model.{Term}
 use Rattle.problem.specs.Cost.{cost}
 use Rattle.problem.specs.Dual.{conjugate, tilt, piece, larger, most}
 use Rattle.evaluate.specs.Padded.{termOf, termAt}
-use Rattle.evaluate.specs.Ranges.{Ranged, Tables}
+use Rattle.evaluate.specs.Ranges.{mostPenalty, mostSlope, Ranged, Tables}
 
--- the largest slope, cost and piece
-abbrev slopeSize : ℕ
-slopeSize = 1717986918400
+-- the largest cost and piece of a number
+abbrev pub mostCost : ℕ
+mostCost = mostPenalty * (2 * mostNumber * (2 * mostNumber))
 
-abbrev costSize : ℕ
-costSize = 1044480 * (40000 * 40000)
-
-abbrev pieceSize : ℕ
-pieceSize = costSize + slopeSize * 20000
+abbrev pub mostPiece : ℕ
+mostPiece = mostCost + mostSlope * mostNumber
 
 -- ---- A number v beside its reference
 
 -- s v
-pub pushed : (s v : ℤ) → natAbs s ≤ slopeSize → natAbs v ≤ mostNumber → Formed (back s *ℤ back v) (s *ℤ v)
+pub pushed : (s v : ℤ) → natAbs s ≤ mostSlope → natAbs v ≤ mostNumber → Formed (back s *ℤ back v) (s *ℤ v)
 pushed s v h k = formed (rw (back-is s h (omega arith), back-is v k (omega arith))) (size-mul s v h k) (omega arith)
 
 pub record Near (p v r : ℤ) : Type 0 where
-  pub penalty : natAbs p ≤ 1044480
+  pub penalty : natAbs p ≤ mostPenalty
   pub number : natAbs v ≤ mostNumber
   pub reference : natAbs r ≤ mostNumber
 
@@ -54,7 +51,7 @@ module _ {p v r : ℤ} (n : Near p v r) where
   size-square : natAbs ((v -ℤ r) *ℤ (v -ℤ r)) ≤ 40000 * 40000
   size-square = size-mul (v -ℤ r) (v -ℤ r) size-distance size-distance
 
-  pub size-cost : natAbs (p *ℤ ((v -ℤ r) *ℤ (v -ℤ r))) ≤ costSize
+  pub size-cost : natAbs (p *ℤ ((v -ℤ r) *ℤ (v -ℤ r))) ≤ mostCost
   size-cost = size-mul p ((v -ℤ r) *ℤ (v -ℤ r)) (n .penalty) size-square
 
   -- P (v − r)², step by step
@@ -80,18 +77,18 @@ module _ {p v r : ℤ} (n : Near p v r) where
   pub risen : Formed (back (pos 2 *ℤ back p) *ℤ back (back v -ℤ back r)) (pos 2 *ℤ p *ℤ (v -ℤ r))
   risen = let h = n .penalty in formed (rw (doubled .is, distance .is)) size-rise (omega arith)
 
-  module _ (s : ℤ) (h : natAbs s ≤ slopeSize) where
+  module _ (s : ℤ) (h : natAbs s ≤ mostSlope) where
     pub tilted : Formed (back (back (pos 2 *ℤ back p) *ℤ back (back v -ℤ back r)) +ℤ back s) (pos 2 *ℤ p *ℤ (v -ℤ r) +ℤ s)
     tilted =
         let k = n .penalty in
         formed (rw (risen .is, back-is s h (omega arith))) (size-add (pos 2 *ℤ p *ℤ (v -ℤ r)) s size-rise h) (omega arith)
 
-    pub size-edge : natAbs (p *ℤ ((v -ℤ r) *ℤ (v -ℤ r)) +ℤ s *ℤ v) ≤ pieceSize
+    pub size-edge : natAbs (p *ℤ ((v -ℤ r) *ℤ (v -ℤ r)) +ℤ s *ℤ v) ≤ mostPiece
     size-edge = size-add (p *ℤ ((v -ℤ r) *ℤ (v -ℤ r))) (s *ℤ v) size-cost (size-mul s v h (n .number))
 
 -- ---- The most that a number costs
 
-pub size-most : {t : Term} → Ranged t → natAbs (most t) ≤ costSize
+pub size-most : {t : Term} → Ranged t → natAbs (most t) ≤ mostCost
 unfolding most larger
 size-most {t} g = go (leZ (low *ℤ low) (high *ℤ high))
   where
@@ -101,7 +98,7 @@ size-most {t} g = go (leZ (low *ℤ low) (high *ℤ high))
     high : ℤ
     high = t .high -ℤ t .reference
 
-    go : (b : Bool) → natAbs (t .penalty *ℤ cond b (high *ℤ high) (low *ℤ low)) ≤ costSize
+    go : (b : Bool) → natAbs (t .penalty *ℤ cond b (high *ℤ high) (low *ℤ low)) ≤ mostCost
     go true = size-cost (near g (t .high) (g .high))
     go false = size-cost (near g (t .low) (g .low))
 
@@ -155,12 +152,12 @@ module _ {t : Term} (g : Ranged t) (s : ℤ) where
           size-sub (s *ℤ t .reference) (conjugate p s) (size-mul s (t .reference) h (g .reference)) (size-conjugate p s (omega (arith, order)) h),
         )
 
-  pub size-piece : natAbs s ≤ slopeSize → natAbs (piece t s) ≤ pieceSize
+  pub size-piece : natAbs s ≤ mostSlope → natAbs (piece t s) ≤ mostPiece
   unfolding piece cost
   size-piece h = go (leZ (pos 0) (tilt t s (t .low))) (leZ (tilt t s (t .high)) (pos 0)) refl refl
     where
       go : (a b : Bool) → leZ (pos 0) (tilt t s (t .low)) ≡ a → leZ (tilt t s (t .high)) (pos 0) ≡ b →
-          natAbs (cond a (cost t (t .low) +ℤ s *ℤ t .low) (cond b (cost t (t .high) +ℤ s *ℤ t .high) (s *ℤ t .reference -ℤ conjugate p s))) ≤ pieceSize
+          natAbs (cond a (cost t (t .low) +ℤ s *ℤ t .low) (cond b (cost t (t .high) +ℤ s *ℤ t .high) (s *ℤ t .reference -ℤ conjugate p s))) ≤ mostPiece
       go true b e f = size-edge (near g (t .low) (g .low)) s h
       go false true e f = size-edge (near g (t .high) (g .high)) s h
       go false false e f = let k = g .penalty in omega (arith, size-third (size-tested e f))
@@ -188,6 +185,6 @@ module _ {penalty low high reference : List ℤ} (t : Tables penalty low high re
       r ≡ f (termAt penalty low high reference p) v
   read-back f e k = k ∙ ap₂ f term-is e
 
-pub size-pieces : {penalty low high reference s : List ℤ} (count : ℕ) → count ≤ 120 → Tables penalty low high reference → Bounded slopeSize s →
-    natAbs (sum count (λ p. piece (termAt penalty low high reference p) (at s p))) ≤ count * pieceSize
-size-pieces {s = s} count l t h = size-sum count pieceSize _ (λ p m. size-piece (t .each p (omega arith)) (at s p) (h .each p))
+pub size-pieces : {penalty low high reference s : List ℤ} (count : ℕ) → count ≤ 120 → Tables penalty low high reference → Bounded mostSlope s →
+    natAbs (sum count (λ p. piece (termAt penalty low high reference p) (at s p))) ≤ count * mostPiece
+size-pieces {s = s} count l t h = size-sum count mostPiece _ (λ p m. size-piece (t .each p (omega arith)) (at s p) (h .each p))

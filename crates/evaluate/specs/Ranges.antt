@@ -1,17 +1,36 @@
--- The ranges that document 01 gives the numbers, and the places that a sum of products reaches.
+-- The ranges that follow from document 01's for the numbers that are formed, and the places that a sum of products reaches.
 use Prim.Native.Nat.{ℕ, _+_, _*_, _<_, _≤_}
 use mathlib.Core.List.{List}
 use lib.ListN.{length}
 use lib.IntN.{ℤ, pos, natAbs}
 use Rattle.integer.specs.Order.{_≼_}
-use Rattle.tape.specs.Ranges.{mostNumber}
+use Rattle.tape.specs.Ranges.{mostEntry, mostDrift, mostNumber, mostWeight, mostMultiplier}
 use Rattle.problem.specs.Model.{Term}
 use Rattle.evaluate.specs.Padded.{termAt}
 
--- P is 4096 h with h from 1 to 255; lo, hi and r are at most 20,000 in size.
+-- P = 4096 h
+abbrev pub mostPenalty : ℕ
+mostPenalty = 4096 * mostWeight
+
+-- a slope: −4096 y(k−1,i), and six products of multipliers and entries
+abbrev pub mostSlope : ℕ
+mostSlope = 4096 * mostMultiplier + 6 * (mostMultiplier * mostEntry)
+
+-- what S has besides its products: w(i), and room for a draught of w's range that is added to it
+abbrev pub mostForcing : ℕ
+mostForcing = mostDrift + mostDrift
+
+-- S, of ten products; and a residual
+abbrev pub mostSum : ℕ
+mostSum = 10 * (mostEntry * mostNumber) + mostForcing
+
+abbrev pub mostResidual : ℕ
+mostResidual = mostSum + 4096 * mostNumber
+
+-- P from 4096 on, h being from 1; lo, hi and r in their ranges, lo ≤ hi.
 pub record Ranged (t : Term) : Type 0 where
   pub weighed : pos 4096 ≼ t .penalty
-  pub penalty : natAbs (t .penalty) ≤ 1044480
+  pub penalty : natAbs (t .penalty) ≤ mostPenalty
   pub low : natAbs (t .low) ≤ mostNumber
   pub high : natAbs (t .high) ≤ mostNumber
   pub reference : natAbs (t .reference) ≤ mostNumber

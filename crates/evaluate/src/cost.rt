@@ -8,11 +8,11 @@ ghost use Rattle.tape.specs.Ranges.{mostNumber};
 ghost use Rattle.problem.specs.Cost.{planCost};
 ghost use Rattle.problem.specs.Dual.{most, ceiling};
 ghost use Rattle.evaluate.specs.Padded.{paddedPlan, termOf, paddedProblem};
-ghost use Rattle.evaluate.specs.Ranges.{Ranged, Tables};
+ghost use Rattle.evaluate.specs.Ranges.{mostPenalty, Ranged, Tables};
 
 // P (v - r)².
 pub fn cost_of(p: i64, r: i64, v: i64) -> i64
-    requires { ⌜ (natAbs p ≤ 1044480) × (natAbs r ≤ mostNumber) × (natAbs v ≤ mostNumber) ⌝ }
+    requires { ⌜ (natAbs p ≤ mostPenalty) × (natAbs r ≤ mostNumber) × (natAbs v ≤ mostNumber) ⌝ }
     ensures { λ q. ⌜ q ≡ p *ℤ ((v -ℤ r) *ℤ (v -ℤ r)) ⌝ }
 {
     let d = v - r;

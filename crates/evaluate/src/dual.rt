@@ -9,7 +9,7 @@ ghost use Rattle.integer.specs.Sum.{sum};
 ghost use Rattle.tape.specs.Ranges.{mostEntry, mostDrift, mostNumber, mostMultiplier};
 ghost use Rattle.problem.specs.Dual.{inputSlope, adjoint, carried, stateSlope, piece, constant, sizes, floor};
 ghost use Rattle.evaluate.specs.Padded.{stateMatrix, inputMatrix, padded, byPlace, termAt, termOf, paddedProblem};
-ghost use Rattle.evaluate.specs.Ranges.{Ranged, Tables};
+ghost use Rattle.evaluate.specs.Ranges.{mostPenalty, mostSlope, Ranged, Tables};
 use crate::cost::cost_of;
 use crate::dot::dot;
 use integer::number::size;
@@ -79,7 +79,7 @@ pub fn slopes<'a>(
 
 // 2P (v - r) + s.
 fn tilt_at(p: i64, v: i64, r: i64, s: i64) -> i64
-    requires { ⌜ (natAbs p ≤ 1044480) × (natAbs v ≤ mostNumber) × (natAbs r ≤ mostNumber) × (natAbs s ≤ 1717986918400) ⌝ }
+    requires { ⌜ (natAbs p ≤ mostPenalty) × (natAbs v ≤ mostNumber) × (natAbs r ≤ mostNumber) × (natAbs s ≤ mostSlope) ⌝ }
     ensures { λ q. ⌜ q ≡ pos 2 *ℤ p *ℤ (v -ℤ r) +ℤ s ⌝ }
 {
     2 * p * (v - r) + s
@@ -87,7 +87,7 @@ fn tilt_at(p: i64, v: i64, r: i64, s: i64) -> i64
 
 // P (v - r)² + s v.
 fn edge(p: i64, v: i64, r: i64, s: i64) -> i64
-    requires { ⌜ (natAbs p ≤ 1044480) × (natAbs v ≤ mostNumber) × (natAbs r ≤ mostNumber) × (natAbs s ≤ 1717986918400) ⌝ }
+    requires { ⌜ (natAbs p ≤ mostPenalty) × (natAbs v ≤ mostNumber) × (natAbs r ≤ mostNumber) × (natAbs s ≤ mostSlope) ⌝ }
     ensures { λ q. ⌜ q ≡ p *ℤ ((v -ℤ r) *ℤ (v -ℤ r)) +ℤ s *ℤ v ⌝ }
 {
     cost_of(p, r, v) + s * v
@@ -95,7 +95,7 @@ fn edge(p: i64, v: i64, r: i64, s: i64) -> i64
 
 // The piece of a plan number with slope s. The square is formed only where both tests bound s.
 pub fn piece_of(p: i64, low: i64, high: i64, r: i64, s: i64) -> i64
-    requires { ⌜ Ranged (termOf p low high r) × (natAbs s ≤ 1717986918400) ⌝ }
+    requires { ⌜ Ranged (termOf p low high r) × (natAbs s ≤ mostSlope) ⌝ }
     ensures { λ q. ⌜ q ≡ piece (termOf p low high r) s ⌝ }
 {
     if 0 <= tilt_at(p, low, r, s) {
@@ -116,7 +116,7 @@ pub fn pieces<'a>(
     s: &'a [i64; 120],
     horizon: usize,
 ) -> i64
-    requires { ⌜ (horizon ≤ 12) × Tables (now penalty) (now low) (now high) (now reference) × Bounded 1717986918400 (now s) ⌝ }
+    requires { ⌜ (horizon ≤ 12) × Tables (now penalty) (now low) (now high) (now reference) × Bounded mostSlope (now s) ⌝ }
     ensures { λ r. ⌜ r ≡ sum (10 * horizon) (λ p. piece (termAt (now (penalty .entry)) (now (low .entry)) (now (high .entry)) (now (reference .entry)) p) (at (now (s .entry)) p)) ⌝ }
 {
     let count = 10 * horizon;

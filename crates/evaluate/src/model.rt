@@ -5,9 +5,10 @@ ghost use lib.ListN.{length};
 ghost use lib.IntN.{pos, natAbs, _-ℤ_, _*ℤ_};
 ghost use Rattle.integer.specs.Places.{at, Bounded, Stretch, Steps};
 ghost use Rattle.integer.specs.Sum.{sum};
-ghost use Rattle.tape.specs.Ranges.{mostEntry, mostDrift, mostNumber};
+ghost use Rattle.tape.specs.Ranges.{mostEntry, mostNumber};
 ghost use Rattle.problem.specs.Model.{stateAt, modelSum, rounded};
 ghost use Rattle.evaluate.specs.Padded.{stateMatrix, inputMatrix, paddedPlan};
+ghost use Rattle.evaluate.specs.Ranges.{mostForcing};
 use crate::dot::dot;
 use integer::number::quotient;
 
@@ -38,7 +39,7 @@ pub fn model_sum<'a>(
     k: usize,
     i: usize,
 ) -> i64
-    requires { ⌜ (k < 12) × (i < 6) × Bounded mostEntry (now a) × Bounded mostEntry (now b) × Bounded mostDrift (now drift) × Bounded mostNumber (now start) × Bounded mostNumber (now v) ⌝ }
+    requires { ⌜ (k < 12) × (i < 6) × Bounded mostEntry (now a) × Bounded mostEntry (now b) × Bounded mostForcing (now drift) × Bounded mostNumber (now start) × Bounded mostNumber (now v) ⌝ }
     ensures { λ r. ⌜ r ≡ modelSum 6 4 (stateMatrix (now (a .entry))) (inputMatrix (now (b .entry))) (at (now (drift .entry)))
         (stateAt (at (now (start .entry))) (paddedPlan (now (v .entry)) .x) k) (paddedPlan (now (v .entry)) .u k) i ⌝ }
 {
@@ -64,7 +65,7 @@ fn step_residuals<'a>(
     v: &'a [i64; 120],
     k: usize,
 )
-    requires { ⌜ (k < 12) × (length (now e) ≡ 72) × Bounded mostEntry (now a) × Bounded mostEntry (now b) × Bounded mostDrift (now drift) × Bounded mostNumber (now start) × Bounded mostNumber (now v) ⌝ }
+    requires { ⌜ (k < 12) × (length (now e) ≡ 72) × Bounded mostEntry (now a) × Bounded mostEntry (now b) × Bounded mostForcing (now drift) × Bounded mostNumber (now start) × Bounded mostNumber (now v) ⌝ }
     ensures { λ _. ⌜ Stretch (6 * k) 6
         (λ i. modelSum 6 4 (stateMatrix (now (a .entry))) (inputMatrix (now (b .entry))) (at (now (drift .entry)))
         (stateAt (at (now (start .entry))) (paddedPlan (now (v .entry)) .x) k) (paddedPlan (now (v .entry)) .u k) i
@@ -86,7 +87,7 @@ pub fn residuals<'a>(
     v: &'a [i64; 120],
     horizon: usize,
 ) -> [i64; 72]
-    requires { ⌜ (horizon ≤ 12) × Bounded mostEntry (now a) × Bounded mostEntry (now b) × Bounded mostDrift (now drift) × Bounded mostNumber (now start) × Bounded mostNumber (now v) ⌝ }
+    requires { ⌜ (horizon ≤ 12) × Bounded mostEntry (now a) × Bounded mostEntry (now b) × Bounded mostForcing (now drift) × Bounded mostNumber (now start) × Bounded mostNumber (now v) ⌝ }
     ensures { λ r. ⌜ Steps 6 horizon
         (λ k i. modelSum 6 4 (stateMatrix (now (a .entry))) (inputMatrix (now (b .entry))) (at (now (drift .entry)))
         (stateAt (at (now (start .entry))) (paddedPlan (now (v .entry)) .x) k) (paddedPlan (now (v .entry)) .u k) i

@@ -5,12 +5,13 @@ use Rattle.integer.specs.Places.{Bounded}
 use Rattle.integer.proofs.Sizes.{called, back, Formed}
 use Rattle.problem.specs.Dual.{constant, floor}
 use Rattle.evaluate.specs.Padded.{padded, paddedProblem}
+use Rattle.evaluate.specs.Ranges.{mostSlope}
 use Rattle.evaluate.proofs.FloorSizes.{floor-formed}
 use Rattle.evaluate.proofs.LinearSizes.{slopes-bounded}
 use Rattle.evaluate.proofs.dual.floor_of.Statement.{statement}
 use Rattle.evaluate.proofs.dual.floor_of.Tie as tie
 
-bounded : (c : tie.After-slopes) → Bounded 1717986918400 (c .slopes .result)
+bounded : (c : tie.After-slopes) → Bounded mostSlope (c .slopes .result)
 bounded c = let h = c .before .pre in slopes-bounded (c .before .args .horizon) (h .0 .1) (h .0 .2) (h .1 .1) (c .slopes .ensures)
 
 total : (c : tie.After-offset) →

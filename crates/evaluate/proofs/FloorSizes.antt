@@ -1,14 +1,15 @@
 -- How large a plan's cost and the floor are, and the floor as the code forms it.
-use Prim.Native.Nat.{ℕ, _+_, _*_, _<_, _≤_}
-use mathlib.Core.Path.{_≡_, _∙_}
+use Prim.Native.Nat.{ℕ, _+_, _*_, _^_, _<_, _≤_}
+use mathlib.Core.Path.{_≡_}
 use mathlib.Core.List.{List, []}
 use native.Mathlib.Omega.{arith}
 use native.Mathlib.Nat.{le-trans, mul-le-mul-right}
 use lib.IntN.{ℤ, pos, natAbs, _+ℤ_, _-ℤ_, _*ℤ_}
+use lib.Signed.{mag}
 use Rattle.integer.specs.Places.{at, Bounded, Steps}
 use Rattle.integer.specs.Sum.{sum}
 use Rattle.integer.proofs.Ring.{ring, _⊕_, _⊖_, _≐_}
-use Rattle.integer.proofs.Sizes.{size-add, Formed, formed}
+use Rattle.integer.proofs.Sizes.{size-add, called, back, Formed, formed}
 use Rattle.integer.proofs.Sum.{size-sum}
 use Rattle.tape.specs.Ranges.{mostEntry, mostDrift, mostNumber, mostMultiplier}
 use Rattle.problem.specs.Cost.{total, cost, planCost}
@@ -63,6 +64,7 @@ module _ {penalty low high reference : List ℤ} (tables : Tables penalty low hi
 
     pub floor-formed : {s : List ℤ} {p o : ℤ} →
         Steps 10 N (byPlace (inputSlope 6 (inputMatrix b) (padded y)) (stateSlope 6 N (stateMatrix a) (padded y))) s →
-        p ≡ sum (10 * N) (λ c. piece (termAt penalty low high reference c) (at s c)) → o ≡ rest → Formed (p +ℤ o) (floor q (padded y))
-    floor-formed {s} slopes e d =
-        formed (rw (e ∙ pieces-places N a b drift start penalty low high reference y s slopes, d) floor-is) size-floor (omega arith)
+        mag p < 2 ^ 63 → p ≡ sum (10 * N) (λ c. piece (termAt penalty low high reference c) (at s c)) → mag o < 2 ^ 63 → o ≡ rest →
+        Formed (back p +ℤ back o) (floor q (padded y))
+    floor-formed {s} {p} {o} slopes f e g d =
+        formed (rw (called p f, e, pieces-places N a b drift start penalty low high reference y s slopes, called o g, d) floor-is) size-floor (omega arith)

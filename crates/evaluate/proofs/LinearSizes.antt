@@ -22,9 +22,9 @@ use Rattle.evaluate.specs.Ranges.{mostSlope, mostForcing, mostSum, mostR
 -- ---- Sums of products
 
 -- what `dot` gave, r, with the places counted otherwise
-pub dotted : {r : ℤ} (n : ℕ) (f : ℕ → ℤ) (l : List ℤ) (g h : ℕ → ℕ) → mag r < 2 ^ 63 → r ≡ sum n (λ q. f q *ℤ at l (g q)) →
+pub dotted : {r : ℤ} {g : ℕ → ℕ} (n : ℕ) (f : ℕ → ℤ) (l : List ℤ) (h : ℕ → ℕ) → mag r < 2 ^ 63 → r ≡ sum n (λ q. f q *ℤ at l (g q)) →
     ((q : ℕ) → g q ≡ h q) → back r ≡ sum n (λ q. f q *ℤ at l (h q))
-dotted {r} n f l g h ok e same = called r ok ∙ e ∙ sum-cong n _ _ (λ q _. ap (λ (p : ℕ). f q *ℤ at l p) (same q))
+dotted {r} n f l h ok e same = called r ok ∙ e ∙ sum-cong n _ _ (λ q _. ap (λ (p : ℕ). f q *ℤ at l p) (same q))
 
 pub size-product-at : {A B : ℕ} {x y : List ℤ} → Bounded A x → Bounded B y → (p q : ℕ) → natAbs (at x p *ℤ at y q) ≤ A * B
 size-product-at {x = x} {y = y} hx hy p q = size-mul (at x p) (at y q) (hx .each p) (hy .each q)

@@ -7,13 +7,12 @@ use denote.Ref.{now}
 use lib.ListN.{length}
 use lib.IntN.{ℤ, _+ℤ_, _*ℤ_}
 use mir.Syntax.{w64}
-use mir.Val.{SFits, toZ, ofZ}
-use mir.Facts.{toZ-ofZ}
+use mir.Val.{toZ}
 use Rattle.integer.specs.Places.{at}
 use Rattle.integer.specs.Sum.{sum}
-use Rattle.integer.proofs.Sizes.{called, fits-by}
-use Rattle.integer.proofs.Sum.{sum-none, sum-last}
-use Rattle.evaluate.proofs.LinearSizes.{size-product-at, size-products}
+use Rattle.integer.proofs.Sizes.{back, element-is, Formed, formed}
+use Rattle.integer.proofs.Sum.{sum-none, added}
+use Rattle.evaluate.proofs.LinearSizes.{size-product-at}
 use Rattle.evaluate.proofs.dot.dot.Statement.{statement}
 use Rattle.evaluate.proofs.dot.dot.Tie as tie
 
@@ -54,37 +53,35 @@ mul-total-3 c = omega (arith, reach c)
 shared-slice-copy-out-total-2 : tie.Need-shared-slice-copy-out-total-2 Inv-loop μ-loop
 shared-slice-copy-out-total-2 c = reach c
 
-module _ (c : tie.After-total2 Inv-loop μ-loop) where
-  abbrev s : tie.Start Inv-loop μ-loop
-  s = c .before .before .before .before
+abbrev turn : tie.After-total2 Inv-loop μ-loop → tie.In-loop Inv-loop μ-loop
+turn c = c .before .before
 
-  abbrev q : ℕ
-  q = c .before .before .before .loop .q
+product : (c : tie.After-total2 Inv-loop μ-loop) →
+    let a = turn c .before .before .args in
+    let q = turn c .before .loop .q in
+    Formed (back (at (a .x .now) (a .i + q)) *ℤ back (at (a .y .now) (a .j + a .stride * q))) (term (a .x .now) (a .i) (a .y .now) (a .j) (a .stride) q)
+product c =
+    let a = turn c .before .before .args in
+    let h = turn c .before .before .pre in
+    let p = a .i + turn c .before .loop .q in
+    let r = a .j + a .stride * turn c .before .loop .q in
+    formed (rw (element-is (h .3) (omega arith) p, element-is (h .4) (omega arith) r)) (size-product-at (h .3) (h .4) p r) (omega arith)
 
-  abbrev t : ℕ → ℤ
-  t = term (now (s .args .x)) (s .args .i) (now (s .args .y)) (s .args .j) (s .args .stride)
-
-  x-is : toZ w64 (ofZ w64 (at (now (s .args .x)) (s .args .i + q))) ≡ at (now (s .args .x)) (s .args .i + q)
-  x-is = called _ (c .before .total .given)
-
-  y-is : toZ w64 (ofZ w64 (at (now (s .args .y)) (s .args .j + s .args .stride * q))) ≡ at (now (s .args .y)) (s .args .j + s .args .stride * q)
-  y-is = called _ (c .total2 .given)
-
-  product-fits : SFits w64 (t q)
-  product-fits = fits-by (t q) (size-product-at (s .pre .3) (s .pre .4) (s .args .i + q) (s .args .j + s .args .stride * q)) (omega arith)
-
-  next-is : toZ w64 (c .before .before .before .loop .total) +ℤ t q ≡ sum (q + 1) t
-  next-is = rw (c .before .before .before .loop .inv .1) (sym (sum-last q t))
-
-  next-fits : SFits w64 (sum (q + 1) t)
-  next-fits =
-      fits-by (sum (q + 1) t) (size-products (s .pre .3) (s .pre .4) (q + 1) (λ q. s .args .i + q) (λ q. s .args .j + s .args .stride * q)) (omega arith)
+next : (c : tie.After-total2 Inv-loop μ-loop) →
+    let a = turn c .before .before .args in
+    let l = turn c .before .loop in
+    Formed (toZ w64 (l .total) +ℤ back (back (at (a .x .now) (a .i + l .q)) *ℤ back (at (a .y .now) (a .j + a .stride * l .q))))
+    (sum (l .q + 1) (term (a .x .now) (a .i) (a .y .now) (a .j) (a .stride)))
+next c =
+    let l = turn c .before .loop in
+    let h = turn c .before .before .pre in
+    added (l .q) _ (λ q _. size-product-at (h .3) (h .4) _ _) (omega arith) (l .inv .1) (product c .is)
 
 mul-total-4 : tie.Need-mul-total-4 Inv-loop μ-loop
-mul-total-4 c = simp (x-is c, y-is c) (product-fits c)
+mul-total-4 c = product c .fits
 
 add-total-3 : tie.Need-add-total-3 Inv-loop μ-loop
-add-total-3 c = simp (x-is c, y-is c, toZ-ofZ (product-fits c), next-is c) (next-fits c)
+add-total-3 c = next c .fits
 
 add-q : tie.Need-add-q Inv-loop μ-loop
 add-q c = search needs
@@ -93,7 +90,7 @@ loop-less : tie.Need-loop-less Inv-loop μ-loop
 loop-less c = search needs
 
 loop-again : tie.Need-loop-again Inv-loop μ-loop
-loop-again c = (omega arith, simp (x-is c, y-is c, toZ-ofZ (product-fits c), next-is c, toZ-ofZ (next-fits c)))
+loop-again c = (omega arith, next c .is)
 
 returns : tie.Need-returns Inv-loop μ-loop
 returns c = let e : c .before .loop .q ≡ c .before .before .args .count = omega arith in rw e at (c .before .loop .inv .1)

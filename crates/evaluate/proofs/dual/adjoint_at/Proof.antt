@@ -21,7 +21,7 @@ returns : tie.Need-returns
 unfolding adjoint
 returns c =
     let s = c .before .before .before .args in
-    dotted 6 (padded (now (s .y)) (s .k)) (now (s .a)) _ (λ q. 6 * q + s .j) (c .dot .ok) (c .dot .ensures) (λ q. omega arith)
+    dotted 6 (padded (now (s .y)) (s .k)) (now (s .a)) (λ q. 6 * q + s .j) (c .dot .ok) (c .dot .ensures) (λ q. omega arith)
 
 pub adjoint-at-spec : {M : Type 1} → statement M
 adjoint-at-spec = tie.close (tie.spec mul-dot dot-requires returns)

@@ -1,5 +1,4 @@
 use Prim.Native.Nat.{_+_}
-use mathlib.Core.Path.{_∙_}
 use borrow.Author.Needs.{needs}
 use borrow.Author.Tests.{lt-ltb, le-ltb}
 use Rattle.integer.proofs.Sizes.{called}
@@ -20,7 +19,7 @@ returns : tie.Need-returns
 unfolding carried
 returns c =
     let s = c .before .before .args in
-    rw (lt-ltb (s .k + 1) (s .horizon) (c .before .if1 .taken)) (called (c .adjoint-at .result) (c .adjoint-at .ok) ∙ c .adjoint-at .ensures)
+    rw (lt-ltb (s .k + 1) (s .horizon) (c .before .if1 .taken), called (c .adjoint-at .result) (c .adjoint-at .ok)) (c .adjoint-at .ensures)
 
 returns-2 : tie.Need-returns-2
 unfolding carried

@@ -42,7 +42,7 @@ next c =
     let a = turn c .before .before .args in
     let h = turn c .before .before .pre in
     added (l .k) _ (λ k _. size-driftAt (h .1) (h .2) k) (omega arith) (l .inv .1)
-    (dotted 6 (padded (a .y .now) (l .k)) (a .drift .now) (λ i. 0 + 1 * i) (λ i. i) (c .dot .ok) (c .dot .ensures) (λ i. omega arith))
+    (dotted 6 (padded (a .y .now) (l .k)) (a .drift .now) (λ i. i) (c .dot .ok) (c .dot .ensures) (λ i. omega arith))
 
 add-total : tie.Need-add-total Inv-loop μ-loop
 add-total c = next c .fits

@@ -1,8 +1,7 @@
-use mathlib.Core.Path.{_∙_}
 use borrow.Author.Needs.{needs}
 use lib.IntN.{_+ℤ_}
 use Rattle.integer.specs.Places.{Bounded}
-use Rattle.integer.proofs.Sizes.{called, back, Formed}
+use Rattle.integer.proofs.Sizes.{back, Formed}
 use Rattle.problem.specs.Dual.{constant, floor}
 use Rattle.evaluate.specs.Padded.{padded, paddedProblem}
 use Rattle.evaluate.specs.Ranges.{mostSlope}
@@ -27,7 +26,7 @@ total c =
     let p = c .before .pieces in
     let o = c .offset in
     floor-formed (h .1 .0) (s .args .horizon) (h .0 .0) (h .0 .1) (h .0 .2) (h .0 .3) (h .0 .4) (h .1 .1) (c .before .before .before .slopes .ensures)
-    (called (p .result) (p .ok) ∙ p .ensures) (called (o .result) (o .ok) ∙ o .ensures)
+    (p .ok) (p .ensures) (o .ok) (o .ensures)
 
 slopes-requires : tie.Need-slopes-requires
 slopes-requires c κs = search needs

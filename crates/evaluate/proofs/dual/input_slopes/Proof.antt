@@ -54,7 +54,7 @@ loop-again c =
     let l = c .before .before .before .before .loop in (
       omega arith,
       stretch-store _ _ _ _ _ _ (omega arith) (l .inv .1)
-          (dotted 6 (padded (now (s .y)) (s .k)) (now (s .b)) (λ q. l .j + 4 * q) (λ q. 4 * q + l .j) (c .dot .ok) (c .dot .ensures) (λ q. omega arith)),
+          (dotted 6 (padded (now (s .y)) (s .k)) (now (s .b)) (λ q. 4 * q + l .j) (c .dot .ok) (c .dot .ensures) (λ q. omega arith)),
     )
 
 returns : tie.Need-returns Inv-loop μ-loop

@@ -1,14 +1,10 @@
 use Prim.Native.Nat.{_+_, _*_, _-_, _≤_}
-use mathlib.Core.Path.{_≡_, _∙_, ap}
+use mathlib.Core.Path.{_≡_}
 use native.Mathlib.Omega.{arith}
-use denote.Ref.{now}
-use lib.IntN.{ℤ, negsuc, _+ℤ_, _*ℤ_}
-use mir.Syntax.{w64}
-use mir.Val.{SFits, toZ, ofZ}
-use mir.Facts.{toZ-ofZ}
+use lib.IntN.{negsuc, _+ℤ_, _*ℤ_}
 use borrow.Author.Needs.{needs}
 use Rattle.integer.specs.Places.{Stretch}
-use Rattle.integer.proofs.Sizes.{called, fits-by}
+use Rattle.integer.proofs.Sizes.{called, back, element-is, Formed, formed}
 use Rattle.integer.proofs.Places.{stretch-none, stretch-store}
 use Rattle.problem.specs.Dual.{stateSlope}
 use Rattle.evaluate.specs.Padded.{stateMatrix, padded}
@@ -37,40 +33,35 @@ mul-s-2 c = search needs
 element-copy-out-s : tie.Need-element-copy-out-s Inv-loop μ-loop
 element-copy-out-s c = search needs
 
-module _ (c : tie.After-s Inv-loop μ-loop) where
-  abbrev multiplier : ℤ
-  multiplier = padded (now (c .before .before .before .args .y)) (c .before .before .before .args .k) (c .before .before .loop .i)
-
-  y-is : toZ w64 (ofZ w64 multiplier) ≡ multiplier
-  y-is = called multiplier (c .s .given)
-
-  scaled-fits : SFits w64 (negsuc 4095 *ℤ multiplier)
-  scaled-fits = fits-by (negsuc 4095 *ℤ multiplier) (size-scaled (c .before .before .before .pre .4) _) (omega arith)
+scaled : (c : tie.After-s Inv-loop μ-loop) →
+    let a = c .before .before .before .args in
+    let i = c .before .before .loop .i in
+    Formed (negsuc 4095 *ℤ back (padded (a .y .now) (a .k) i)) (negsuc 4095 *ℤ padded (a .y .now) (a .k) i)
+scaled c =
+    let a = c .before .before .before .args in
+    let h = c .before .before .before .pre .4 in
+    let p = 6 * a .k + c .before .before .loop .i in
+    formed (rw (element-is h (omega arith) p)) (size-scaled h p) (omega arith)
 
 mul-s-3 : tie.Need-mul-s-3 Inv-loop μ-loop
-mul-s-3 c = simp (y-is c) (scaled-fits c)
+mul-s-3 c = scaled c .fits
 
 carried-slope-requires : tie.Need-carried-slope-requires Inv-loop μ-loop
 carried-slope-requires c κs = search needs
 
-module _ (c : tie.After-carried-slope Inv-loop μ-loop) where
-  abbrev s : tie.Start Inv-loop μ-loop
-  s = c .before .before .before .before
-
-  abbrev slope : ℤ
-  slope = stateSlope 6 (s .args .horizon) (stateMatrix (now (s .args .a))) (padded (now (s .args .y))) (s .args .k) (c .before .before .before .loop .i)
-
-  slope-is : negsuc 4095 *ℤ multiplier (c .before) +ℤ toZ w64 (ofZ w64 (c .carried-slope .result)) ≡ slope
-  unfolding stateSlope
-  slope-is =
-      let f = c .carried-slope in
-      ap (λ (z : ℤ). negsuc 4095 *ℤ multiplier (c .before) +ℤ z) (called (f .result) (f .ok) ∙ f .ensures)
-
-  slope-fits : SFits w64 slope
-  slope-fits = fits-by slope (size-stateSlope (s .pre .3) (s .pre .4) _ _ _) (omega arith)
+slope : (c : tie.After-carried-slope Inv-loop μ-loop) →
+    let a = c .before .before .before .before .args in
+    let i = c .before .before .before .loop .i in
+    Formed (back (negsuc 4095 *ℤ back (padded (a .y .now) (a .k) i)) +ℤ back (c .carried-slope .result))
+    (stateSlope 6 (a .horizon) (stateMatrix (a .a .now)) (padded (a .y .now)) (a .k) i)
+unfolding stateSlope
+slope c =
+    let f = c .carried-slope in
+    let h = c .before .before .before .before .pre in
+    formed (rw (scaled (c .before) .is, called (f .result) (f .ok), f .ensures)) (size-stateSlope (h .3) (h .4) _ _ _) (omega arith)
 
 add-s-2 : tie.Need-add-s-2 Inv-loop μ-loop
-add-s-2 c = simp (y-is (c .before), toZ-ofZ (scaled-fits (c .before)), slope-is c) (slope-fits c)
+add-s-2 c = slope c .fits
 
 mul-t17 : tie.Need-mul-t17 Inv-loop μ-loop
 mul-t17 c = search needs
@@ -94,11 +85,7 @@ loop-less : tie.Need-loop-less Inv-loop μ-loop
 loop-less c = search needs
 
 loop-again : tie.Need-loop-again Inv-loop μ-loop
-loop-again c = (
-  omega arith,
-  stretch-store _ _ _ _ _ _ (omega arith) (c .before .before .before .loop .inv .1)
-      (simp (y-is (c .before), toZ-ofZ (scaled-fits (c .before)), slope-is c, toZ-ofZ (slope-fits c))),
-)
+loop-again c = (omega arith, stretch-store _ _ _ _ _ _ (omega arith) (c .before .before .before .loop .inv .1) (slope c .is))
 
 returns : tie.Need-returns Inv-loop μ-loop
 returns c = let e : c .before .loop .i ≡ 6 = omega arith in rw e at (c .before .loop .inv .1)

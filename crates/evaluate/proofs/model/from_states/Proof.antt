@@ -29,7 +29,7 @@ returns c =
     let s = c .before .before .before .before .args in
     let e : s .k ≡ 0 = c .before .before .before .if1 .taken in
     rw e
-    (dotted 6 (stateMatrix (now (s .a)) (s .i)) (now (s .start)) (λ j. 0 + 1 * j) (λ j. j) (c .dot .ok) (c .dot .ensures) (λ j. omega arith))
+    (dotted 6 (stateMatrix (now (s .a)) (s .i)) (now (s .start)) (λ j. j) (c .dot .ok) (c .dot .ensures) (λ j. omega arith))
 
 mul-dot-2 : tie.Need-mul-dot-2
 mul-dot-2 c = search needs
@@ -56,7 +56,7 @@ returns-2 c =
     let s = c .before .before .before .before .args in
     let e : s .k ≡ suc (s .k - 1) = omega arith in
     rw e
-    (dotted 6 (stateMatrix (now (s .a)) (s .i)) (now (s .v)) (λ j. 10 * s .k - 6 + 1 * j) (λ j. 10 * (s .k - 1) + (4 + j)) (c .dot2 .ok)
+    (dotted 6 (stateMatrix (now (s .a)) (s .i)) (now (s .v)) (λ j. 10 * (s .k - 1) + (4 + j)) (c .dot2 .ok)
     (c .dot2 .ensures) (λ j. omega arith))
 
 pub from-states-spec : {M : Type 1} → statement M

@@ -1,17 +1,13 @@
-use Prim.Native.Nat.{ℕ, _*_, _-_, _≤_}
-use mathlib.Core.Path.{_≡_, _∙_}
+use Prim.Native.Nat.{_+_, _*_, _-_, _≤_}
+use mathlib.Core.Path.{_≡_}
 use native.Mathlib.Omega.{arith}
-use denote.Ref.{now}
-use lib.IntN.{ℤ, pos, _-ℤ_, _*ℤ_}
-use mir.Syntax.{w64}
-use mir.Val.{SFits, toZ, ofZ}
-use mir.Facts.{toZ-ofZ}
+use lib.IntN.{pos, _-ℤ_, _*ℤ_}
 use borrow.Author.Needs.{needs}
 use Rattle.integer.specs.Places.{Stretch}
-use Rattle.integer.proofs.Sizes.{called, fits-by}
+use Rattle.integer.proofs.Sizes.{called, back, element-is, Formed, formed}
 use Rattle.integer.proofs.Places.{stretch-none, stretch-store}
 use Rattle.evaluate.specs.Padded.{paddedPlan}
-use Rattle.evaluate.proofs.LinearSizes.{modelAt, residualAt, size-units, size-residual}
+use Rattle.evaluate.proofs.LinearSizes.{residualAt, size-units, size-residual}
 use Rattle.evaluate.proofs.model.step_residuals.Statement.{statement}
 use Rattle.evaluate.proofs.model.step_residuals.Tie as tie
 
@@ -42,38 +38,32 @@ mul-e-2 c = search needs
 element-copy-out-e : tie.Need-element-copy-out-e Inv-loop μ-loop
 element-copy-out-e c = search needs
 
-module _ (c : tie.After-e Inv-loop μ-loop) where
-  abbrev s : tie.Start Inv-loop μ-loop
-  s = c .before .before .before .before
-
-  abbrev i : ℕ
-  i = c .before .before .before .loop .i
-
-  abbrev x : ℤ
-  x = paddedPlan (now (s .args .v)) .x (s .args .k) i
-
-  abbrev model : ℤ
-  model = modelAt (now (s .args .a)) (now (s .args .b)) (now (s .args .drift)) (now (s .args .start)) (now (s .args .v)) (s .args .k) i
-
-  model-is : toZ w64 (ofZ w64 (c .before .model-sum .result)) ≡ model
-  model-is = let f = c .before .model-sum in called (f .result) (f .ok) ∙ f .ensures
-
-  x-is : toZ w64 (ofZ w64 x) ≡ x
-  x-is = called x (c .e .given)
-
-  next-fits : SFits w64 (pos 4096 *ℤ x)
-  next-fits = fits-by (pos 4096 *ℤ x) (size-units (s .pre .6) _) (omega arith)
-
-  residual-fits : SFits w64 (model -ℤ pos 4096 *ℤ x)
-  residual-fits =
-      let p = s .pre in
-      fits-by (model -ℤ pos 4096 *ℤ x) (size-residual (p .2) (p .3) (p .4) (p .5) (p .6) (s .args .k) i) (omega arith)
+scaled : (c : tie.After-e Inv-loop μ-loop) →
+    let a = c .before .before .before .before .args in
+    let i = c .before .before .before .loop .i in
+    Formed (pos 4096 *ℤ back (paddedPlan (a .v .now) .x (a .k) i)) (pos 4096 *ℤ paddedPlan (a .v .now) .x (a .k) i)
+scaled c =
+    let h = c .before .before .before .before .pre .6 in
+    let p = 10 * c .before .before .before .before .args .k + (4 + c .before .before .before .loop .i) in
+    formed (rw (element-is h (omega arith) p)) (size-units h p) (omega arith)
 
 mul-e-3 : tie.Need-mul-e-3 Inv-loop μ-loop
-mul-e-3 c = simp (x-is c) (next-fits c)
+mul-e-3 c = scaled c .fits
+
+residual : (c : tie.After-e Inv-loop μ-loop) →
+    let a = c .before .before .before .before .args in
+    let i = c .before .before .before .loop .i in
+    Formed (back (c .before .model-sum .result) -ℤ back (pos 4096 *ℤ back (paddedPlan (a .v .now) .x (a .k) i)))
+    (residualAt (a .a .now) (a .b .now) (a .drift .now) (a .start .now) (a .v .now) (a .k) i)
+residual c =
+    let s = c .before .before .before .before in
+    let h = s .pre in
+    let f = c .before .model-sum in
+    formed (rw (scaled c .is, called (f .result) (f .ok), f .ensures))
+    (size-residual (h .2) (h .3) (h .4) (h .5) (h .6) (s .args .k) (c .before .before .before .loop .i)) (omega arith)
 
 sub-e : tie.Need-sub-e Inv-loop μ-loop
-sub-e c = simp (model-is c, x-is c, toZ-ofZ (next-fits c)) (residual-fits c)
+sub-e c = residual c .fits
 
 mul-t20 : tie.Need-mul-t20 Inv-loop μ-loop
 mul-t20 c = search needs
@@ -94,11 +84,7 @@ loop-less : tie.Need-loop-less Inv-loop μ-loop
 loop-less c = search needs
 
 loop-again : tie.Need-loop-again Inv-loop μ-loop
-loop-again c = (
-  omega arith,
-  stretch-store _ _ _ _ _ _ (omega arith) (c .before .before .before .loop .inv .1)
-      (simp (model-is c, x-is c, toZ-ofZ (next-fits c), toZ-ofZ (residual-fits c))),
-)
+loop-again c = (omega arith, stretch-store _ _ _ _ _ _ (omega arith) (c .before .before .before .loop .inv .1) (residual c .is))
 
 returns : tie.Need-returns Inv-loop μ-loop
 returns c = let e : c .before .loop .i ≡ 6 = omega arith in rw e at (c .before .loop .inv .1)

@@ -18,7 +18,7 @@ use Rattle.integer.proofs.Tests.{in-size, not-outside, by-test, any-none, any-a
 use Rattle.tape.specs.Ranges.{mostMultiplier}
 use Rattle.problem.specs.Model.{multipliersOf}
 use Rattle.judge.specs.Checks.{wrongMultipliers}
-use Rattle.evaluate.specs.Held.{HeldMultipliers}
+use Rattle.primal.specs.Held.{HeldMultipliers}
 
 -- ---- The test of their range
 

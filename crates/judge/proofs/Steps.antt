@@ -21,14 +21,14 @@ use Rattle.tape.specs.Legal.{Legal}
 use Rattle.integer.proofs.Tests.{in-range, not-outside}
 use Rattle.problem.specs.Model.{Term, Plan, problemOf, planOf, stateAt, modelSum, sumAt}
 use Rattle.problem.proofs.Congruence.{model-cong}
-use Rattle.evaluate.specs.Padded.{stateMatrix, inputMatrix, paddedPlan}
-use Rattle.evaluate.specs.Terms.{TermsOf}
-use Rattle.evaluate.proofs.LinearSizes.{modelAt}
-use Rattle.evaluate.proofs.Padding.{model-padded}
+use Rattle.primal.specs.Padded.{stateMatrix, inputMatrix, paddedPlan}
+use Rattle.primal.specs.Terms.{TermsOf}
+use Rattle.primal.proofs.ModelSizes.{modelAt}
+use Rattle.primal.proofs.Padding.{model-padded}
 use Rattle.judge.specs.declared.walk.Check.{Check}
 use Rattle.judge.specs.declared.walk.Check.the-variants.{Passed, Refused}
 use Rattle.judge.specs.Checks.{orElse, first, limits, meets, stateCheck, stepCheck}
-use Rattle.evaluate.specs.Held.{BlankPlan, HeldPlan}
+use Rattle.primal.specs.Held.{BlankPlan, HeldPlan}
 use Rattle.judge.specs.Held.{FilledWhenPassed, HeldWhenPassed}
 
 -- ---- The first refusal

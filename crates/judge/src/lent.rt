@@ -6,7 +6,7 @@ ghost use lib.ListN.{length};
 ghost use Rattle.integer.specs.Places.{at, Stretch};
 ghost use Rattle.problem.specs.Model.{multipliersOf};
 ghost use Rattle.judge.specs.Checks.{wrongMultipliers};
-ghost use Rattle.evaluate.specs.Held.{HeldMultipliers};
+ghost use Rattle.primal.specs.Held.{HeldMultipliers};
 use integer::number::is_outside;
 use tape::range::LEAST_MULTIPLIER;
 use tape::range::MOST_MULTIPLIER;

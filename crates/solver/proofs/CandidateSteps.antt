@@ -12,11 +12,11 @@ use Rattle.integer.specs.Tests.{outside, any}
 use Rattle.tape.specs.Legal.{Legal}
 use Rattle.integer.proofs.Tests.{not-outside, any-none, any-all, any-cong}
 use Rattle.problem.specs.Model.{Problem, Plan, problemOf, rounded}
-use Rattle.evaluate.specs.Padded.{paddedPlan}
-use Rattle.evaluate.specs.Terms.{TermsOf}
-use Rattle.evaluate.proofs.LinearSizes.{modelAt}
-use Rattle.evaluate.proofs.Padding.{model-padded}
-use Rattle.evaluate.specs.Held.{HeldPlan}
+use Rattle.primal.specs.Padded.{paddedPlan}
+use Rattle.primal.specs.Terms.{TermsOf}
+use Rattle.primal.proofs.ModelSizes.{modelAt}
+use Rattle.primal.proofs.Padding.{model-padded}
+use Rattle.primal.specs.Held.{HeldPlan}
 use Rattle.judge.proofs.Steps.{range-size, stretch-bounded, stretch-cong, stretch-beside, model-held, held-next}
 use Rattle.solver.specs.Rounds.{modelStates, candidate, exceeds}
 use Rattle.solver.specs.Held.{InputsWithin}

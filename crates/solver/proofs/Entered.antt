@@ -14,8 +14,8 @@ use Rattle.tape.specs.Legal.{Legal}
 use Rattle.problem.specs.Model.{problemOf, multipliersOf, residual}
 use Rattle.problem.specs.Dual.{floor, floorOf}
 use Rattle.problem.proofs.Congruence.{model-cong, cost-cong, inputSlope-cong, stateSlope-cong, floor-cong}
-use Rattle.evaluate.specs.Padded.{padded, paddedPlan}
-use Rattle.evaluate.specs.Held.{BlankMultipliers, HeldMultipliers, HeldPlan}
+use Rattle.primal.specs.Padded.{padded, paddedPlan}
+use Rattle.primal.specs.Held.{BlankMultipliers, HeldMultipliers, HeldPlan}
 use Rattle.judge.proofs.Steps.{states-before}
 use Rattle.solver.specs.declared.rounds.Verdict.{Verdict}
 use Rattle.solver.specs.declared.rounds.Verdict.the-variants.{Proved, Impossible, Neither}

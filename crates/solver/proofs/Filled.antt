@@ -14,12 +14,14 @@ use Rattle.tape.specs.declared.Tape.{Tape}
 use Rattle.tape.specs.Legal.{Legal}
 use Rattle.problem.specs.Model.{Term, problemOf, stateAt, modelSum, residual}
 use Rattle.problem.specs.Dual.{inputSlope, stateSlope}
-use Rattle.evaluate.specs.Padded.{stateMatrix, inputMatrix, padded, paddedPlan, byPlace, termAt}
-use Rattle.evaluate.specs.Terms.{blankTerm, TermsOf}
-use Rattle.evaluate.proofs.LinearSizes.{residualAt}
-use Rattle.evaluate.proofs.Padding.{model-padded, inputSlope-padded, stateSlope-padded}
-use Rattle.evaluate.proofs.Places.{place-input, place-state}
-use Rattle.evaluate.specs.Held.{BlankMultipliers, BlankPlan, HeldMultipliers, HeldPlan}
+use Rattle.primal.specs.Padded.{stateMatrix, inputMatrix, padded, paddedPlan, termAt}
+use Rattle.dual.specs.Slopes.{byPlace}
+use Rattle.primal.specs.Terms.{blankTerm, TermsOf}
+use Rattle.primal.proofs.ModelSizes.{residualAt}
+use Rattle.primal.proofs.Padding.{model-padded}
+use Rattle.dual.proofs.FloorPadding.{inputSlope-padded, stateSlope-padded}
+use Rattle.dual.proofs.ByPlace.{place-input, place-state}
+use Rattle.primal.specs.Held.{BlankMultipliers, BlankPlan, HeldMultipliers, HeldPlan}
 use Rattle.solver.specs.Rounds.{ahead, minimiser, minimisers, ascended}
 use Rattle.solver.specs.Held.{InputsWithin}
 use Rattle.solver.proofs.Blank.{ahead-zero, ascended-zero, minimiser-blank, size-ahead, size-ascended, size-minimiser, minimiser-within}

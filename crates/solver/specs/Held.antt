@@ -7,8 +7,8 @@ use Rattle.integer.specs.Places.{Stretch}
 use Rattle.tape.specs.declared.Tape.{Tape}
 use Rattle.problem.specs.Model.{Problem, Plan}
 use Rattle.problem.specs.Cost.{Within}
-use Rattle.evaluate.specs.Padded.{padded, paddedPlan}
-use Rattle.evaluate.specs.Held.{HeldPlan}
+use Rattle.primal.specs.Padded.{padded, paddedPlan}
+use Rattle.primal.specs.Held.{HeldPlan}
 use Rattle.solver.specs.declared.rounds.Verdict.{Verdict}
 use Rattle.solver.specs.declared.rounds.Verdict.the-variants.{Proved, Impossible, Neither}
 use Rattle.solver.specs.declared.rounds.Ended.{Ended}

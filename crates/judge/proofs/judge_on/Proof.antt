@@ -8,9 +8,10 @@ use lib.IntN.{ℤ, _-ℤ_}
 use Rattle.problem.specs.Model.{problemOf, planOf}
 use Rattle.judge.specs.declared.walk.Check.the-variants.{Passed}
 use Rattle.judge.specs.Checks.{wrongMultipliers, planCheck}
-use Rattle.evaluate.specs.Held.{HeldPlan}
+use Rattle.primal.specs.Held.{HeldPlan}
 use Rattle.judge.specs.Judging.{gapWithin, judgedOn}
-use Rattle.evaluate.proofs.Held.{count-fits, floor-held, cost-held}
+use Rattle.primal.proofs.Lengths.{count-fits}
+use Rattle.primal.proofs.Held.{floor-held, cost-held}
 use Rattle.judge.proofs.judge_on.Statement.{statement}
 use Rattle.judge.proofs.judge_on.Tie as tie
 

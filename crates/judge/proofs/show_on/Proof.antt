@@ -5,7 +5,8 @@ use borrow.Author.Needs.{needs}
 use borrow.Author.Tests.{eq-eqb, ne-eqb}
 use Rattle.judge.specs.Checks.{wrongMultipliers}
 use Rattle.judge.specs.Judging.{floorAbove, shownOn}
-use Rattle.evaluate.proofs.Held.{count-fits, floor-held}
+use Rattle.primal.proofs.Lengths.{count-fits}
+use Rattle.primal.proofs.Held.{floor-held}
 use Rattle.judge.proofs.show_on.Statement.{statement}
 use Rattle.judge.proofs.show_on.Tie as tie
 

@@ -10,7 +10,7 @@ use Rattle.integer.specs.Places.{at, Bounded, Stretch}
 use Rattle.integer.proofs.Sizes.{called, back, Formed, widened}
 use Rattle.integer.proofs.Places.{stretch-none, stretch-store}
 use Rattle.tape.specs.Ranges.{mostNumber}
-use Rattle.evaluate.proofs.LinearSizes.{modelAt, size-model}
+use Rattle.primal.proofs.ModelSizes.{modelAt, size-model}
 use Rattle.judge.specs.declared.walk.Check.the-variants.{Passed}
 use Rattle.judge.specs.Checks.{first, stateCheck}
 use Rattle.judge.proofs.Steps.{first-none, first-passed, first-refused, first-each, state-size, stretch-bounded, stateCheckAt, model-kept}

@@ -5,7 +5,7 @@ use borrow.Author.Needs.{needs}
 use Rattle.problem.specs.Model.{problemOf, planOf}
 use Rattle.judge.specs.declared.walk.Check.the-variants.{Passed}
 use Rattle.judge.specs.Checks.{first, stepCheck, planCheck}
-use Rattle.evaluate.specs.Held.{HeldPlan}
+use Rattle.primal.specs.Held.{HeldPlan}
 use Rattle.judge.proofs.Steps.{first-none, first-passed, first-refused, held-none}
 use Rattle.judge.proofs.walk.checked_plan.Statement.{statement}
 use Rattle.judge.proofs.walk.checked_plan.Tie as tie

@@ -8,7 +8,7 @@ use Rattle.integer.specs.Places.{Bounded}
 use Rattle.integer.proofs.Places.{all-bounded}
 use Rattle.tape.specs.Ranges.{mostNumber}
 use Rattle.problem.specs.Model.{problemOf}
-use Rattle.evaluate.specs.Padded.{paddedPlan}
+use Rattle.primal.specs.Padded.{paddedPlan}
 use Rattle.integer.specs.Tests.{any}
 use Rattle.integer.proofs.Tests.{any-at, any-more}
 use Rattle.judge.proofs.Steps.{held-start}

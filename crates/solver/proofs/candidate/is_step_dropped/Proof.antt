@@ -10,7 +10,7 @@ use Rattle.integer.proofs.Sizes.{called, back}
 use Rattle.integer.proofs.Places.{stretch-none, stretch-store}
 use Rattle.tape.specs.Ranges.{mostNumber}
 use Rattle.problem.specs.Model.{rounded}
-use Rattle.evaluate.proofs.LinearSizes.{modelAt, size-model}
+use Rattle.primal.proofs.ModelSizes.{modelAt, size-model}
 use Rattle.integer.specs.Tests.{any}
 use Rattle.integer.proofs.Tests.{any-at, any-more}
 use Rattle.judge.proofs.Steps.{model-kept}

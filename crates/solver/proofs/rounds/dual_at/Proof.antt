@@ -4,10 +4,10 @@ use lib.IntN.{_+ℤ_}
 use Rattle.integer.specs.Places.{Bounded}
 use Rattle.integer.proofs.Sizes.{called, back, Formed}
 use Rattle.problem.specs.Dual.{constant, floor}
-use Rattle.evaluate.specs.Padded.{padded, paddedProblem}
-use Rattle.evaluate.proofs.FloorSizes.{size-floor, floor-formed}
-use Rattle.evaluate.proofs.LinearSizes.{slopes-bounded}
-use Rattle.evaluate.proofs.Padding.{floor-padded}
+use Rattle.primal.specs.Padded.{padded, paddedProblem}
+use Rattle.dual.proofs.FloorSizes.{size-floor, floor-formed}
+use Rattle.dual.proofs.SlopeSizes.{slopes-bounded}
+use Rattle.dual.proofs.FloorPadding.{floor-padded}
 use Rattle.solver.proofs.Filled.{held-numbers}
 use Rattle.solver.proofs.rounds.dual_at.Statement.{statement}
 use Rattle.solver.proofs.rounds.dual_at.Tie as tie

@@ -5,7 +5,7 @@ use borrow.Author.Needs.{needs}
 use lib.IntN.{natAbs}
 use Rattle.integer.proofs.Order.{order}
 use Rattle.integer.proofs.Sizes.{size-parts, back, back-is}
-use Rattle.evaluate.proofs.LinearSizes.{residuals-bounded}
+use Rattle.primal.proofs.ModelSizes.{residuals-bounded}
 use Rattle.solver.proofs.Filled.{held-ascended}
 use Rattle.solver.proofs.rounds.RoundState.next.Statement.{statement}
 use Rattle.solver.proofs.rounds.RoundState.next.Tie as tie

@@ -71,7 +71,7 @@ module _ (t : Tape) (legal : Legal t) {penalty low high reference : List ℤ} (t
       let e = legal .steps .1 in
       ap₂ minimiser (terms .input k j (omega arith) m)
       (slopes .each k j h (omega arith) ∙ place-input _ _ k j (omega arith)
-      ∙ inputSlope-padded t legal penalty low high reference terms (padded y) (blank .each) k j)
+      ∙ inputSlope-padded t legal (padded y) (blank .each) k j)
 
   state-number : (k i : ℕ) → k < t .horizon → i < t .n → number (10 * k + (4 + i)) ≡ minimisers (problemOf t) (padded y) .x k i
   state-number k i h m =
@@ -79,7 +79,7 @@ module _ (t : Tape) (legal : Legal t) {penalty low high reference : List ℤ} (t
       let e = legal .steps .1 in
       ap₂ minimiser (terms .state k i (omega arith) m)
       (slopes .each k (4 + i) h (omega arith) ∙ place-state _ _ k i
-      ∙ stateSlope-padded t legal penalty low high reference terms (padded y) (blank .each) k i)
+      ∙ stateSlope-padded t legal (padded y) (blank .each) k i)
 
   pub held-numbers : {l : List ℤ} → Stretch 0 (10 * t .horizon) number (replicate 120 (pos 0)) l →
       HeldPlan (t .n) (t .m) (t .horizon) (minimisers (problemOf t) (padded y)) l

@@ -5,6 +5,7 @@ use native.Mathlib.Omega.{arith}
 use lib.ListN.{length}
 use borrow.Author.Needs.{needs}
 use Rattle.integer.specs.Places.{Bounded}
+use Rattle.integer.proofs.Sizes.{wider}
 use Rattle.integer.proofs.Places.{all-bounded}
 use Rattle.tape.specs.Ranges.{mostNumber}
 use Rattle.problem.specs.Model.{problemOf}
@@ -50,7 +51,7 @@ is-step-dropped-requires c κs =
     let held = turn .before .loop .inv .2 .held in
     let limits = limits-bounded s in (
       (omega (arith, early turn, legal .steps), legal .states .1, held .long, held .bounded),
-      (legal .a, legal .b, legal .drift, legal .start, limits .0, limits .1),
+      (legal .a, legal .b, wider (legal .drift) (omega arith), legal .start, limits .0, limits .1),
     )
 
 abbrev turn : tie.After-is-step-dropped Inv-loop μ-loop → tie.In-loop Inv-loop μ-loop

@@ -2,7 +2,7 @@ use mathlib.Core.Path.{_∙_}
 use borrow.Author.Needs.{needs}
 use lib.IntN.{_+ℤ_}
 use Rattle.integer.specs.Places.{Bounded}
-use Rattle.integer.proofs.Sizes.{called, back, Formed}
+use Rattle.integer.proofs.Sizes.{back, Formed}
 use Rattle.problem.specs.Dual.{constant, floor}
 use Rattle.primal.specs.Padded.{padded, paddedProblem}
 use Rattle.dual.proofs.FloorSizes.{size-floor, floor-formed}
@@ -46,7 +46,7 @@ total c =
     let s = start d in
     let l = s .pre .0 .0 in
     floor-formed (s .pre .0 .1 .tables) (s .args .t1 .horizon) (l .steps .1) (l .a) (l .b) (l .drift) (l .start) (s .pre .1 .1) (d .slopes .ensures)
-    (called (p .result) (p .ok) ∙ p .ensures) (called (o .result) (o .ok) ∙ o .ensures)
+    (p .ok) (p .ensures) (o .ok) (o .ensures)
 
 slopes-requires : tie.Need-slopes-requires
 slopes-requires c κs = search needs

@@ -4,7 +4,7 @@ use native.Mathlib.Omega.{arith}
 use borrow.Author.Needs.{needs}
 use lib.IntN.{natAbs}
 use Rattle.integer.proofs.Order.{order}
-use Rattle.integer.proofs.Sizes.{size-parts, back, back-is}
+use Rattle.integer.proofs.Sizes.{size-parts, wider, back, back-is}
 use Rattle.primal.proofs.ModelSizes.{residuals-bounded}
 use Rattle.solver.proofs.Filled.{held-ascended}
 use Rattle.solver.proofs.rounds.RoundState.next.Statement.{statement}
@@ -22,7 +22,10 @@ gain-is : (s : tie.Start) → back (s .args .t2 .gain) ≡ s .args .t2 .gain
 gain-is s = back-is (s .args .t2 .gain) (small s) (omega arith)
 
 residuals-requires : tie.Need-residuals-requires
-residuals-requires c κs = search needs
+residuals-requires c κs =
+    let h = c .before .before .before .before .before .before .before .before .pre in
+    let l = h .0 in
+    (l .steps .1, l .a, l .b, wider (l .drift) (omega arith), l .start, h .4)
 
 multipliers-ascended-requires : tie.Need-multipliers-ascended-requires
 multipliers-ascended-requires c κs =
@@ -34,7 +37,7 @@ multipliers-ascended-requires c κs =
       omega arith,
       l .steps .1,
       h .2,
-      residuals-bounded (s .args .t2 .horizon) (l .a) (l .b) (l .drift) (l .start) (h .4) (r .residuals .ensures),
+      residuals-bounded (s .args .t2 .horizon) (l .a) (l .b) (wider (l .drift) (omega arith)) (l .start) (h .4) (r .residuals .ensures),
     )
 
 returns : tie.Need-returns

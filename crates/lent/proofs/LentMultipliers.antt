@@ -16,7 +16,7 @@ use Rattle.integer.proofs.Places.{lt-or-le, all-bounded, steps-bounded}
 use Rattle.integer.proofs.Tests.{in-size, not-outside, by-test, any-none, any-all}
 use Rattle.commands.specs.Ranges.{mostMultiplier}
 use Rattle.problem.specs.Model.{multipliersOf}
-use Rattle.evaluate.specs.Held.{HeldMultipliers}
+use Rattle.primal.specs.Held.{HeldMultipliers}
 use Rattle.lent.specs.Checks.{wrongMultipliers}
 
 -- ---- The test of their range

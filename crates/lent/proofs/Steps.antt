@@ -17,11 +17,11 @@ use Rattle.tape.specs.declared.Tape.{Tape}
 use Rattle.tape.specs.declared.refusal.Refusal.{Refusal}
 use Rattle.tape.specs.Legal.{Legal}
 use Rattle.problem.specs.Model.{Term, problemOf, planOf, sumAt}
-use Rattle.evaluate.specs.Terms.{TermsOf}
-use Rattle.evaluate.specs.Held.{HeldPlan}
-use Rattle.evaluate.proofs.LinearSizes.{modelAt}
-use Rattle.evaluate.proofs.Padding.{model-padded}
-use Rattle.evaluate.proofs.HeldSteps.{model-held, held-next}
+use Rattle.primal.specs.Terms.{TermsOf}
+use Rattle.primal.specs.Held.{HeldPlan}
+use Rattle.primal.proofs.ModelSizes.{modelAt}
+use Rattle.primal.proofs.Padding.{model-padded}
+use Rattle.primal.proofs.HeldSteps.{model-held, held-next}
 use Rattle.lent.specs.declared.walk.Check.{Check}
 use Rattle.lent.specs.declared.walk.Check.the-variants.{Passed, Refused}
 use Rattle.lent.specs.Checks.{orElse, first, limits, meets, stateCheck, stepCheck}

@@ -4,7 +4,7 @@ use mathlib.Core.List.{List}
 use lib.IntN.{ℤ}
 use Rattle.integer.specs.Places.{Stretch}
 use Rattle.problem.specs.Model.{Plan}
-use Rattle.evaluate.specs.Held.{HeldPlan}
+use Rattle.primal.specs.Held.{HeldPlan}
 use Rattle.lent.specs.declared.walk.Check.{Check}
 use Rattle.lent.specs.declared.walk.Check.the-variants.{Passed, Refused}
 

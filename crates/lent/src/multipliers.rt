@@ -5,7 +5,7 @@ ghost use mathlib.Core.Bool.{false};
 ghost use lib.ListN.{length};
 ghost use Rattle.integer.specs.Places.{at, Stretch};
 ghost use Rattle.problem.specs.Model.{multipliersOf};
-ghost use Rattle.evaluate.specs.Held.{HeldMultipliers};
+ghost use Rattle.primal.specs.Held.{HeldMultipliers};
 ghost use Rattle.lent.specs.Checks.{wrongMultipliers};
 use commands::range::LEAST_MULTIPLIER;
 use commands::range::MOST_MULTIPLIER;

@@ -10,7 +10,7 @@ use Rattle.integer.specs.Sum.{sum}
 use Rattle.integer.proofs.Sum.{sum-cong}
 use Rattle.problem.specs.Model.{Problem, Plan, modelSum}
 use Rattle.problem.specs.Cost.{cost, planCost}
-use Rattle.problem.specs.Dual.{inputSlope, carried, stateSlope, piece, pieces, constant, sizes, floor}
+use Rattle.problem.specs.Dual.{inputSlope, adjoint, carried, stateSlope, piece, pieces, constant, sizes, floor}
 use Rattle.problem.proofs.Total.{total-cong}
 
 pub model-cong : (n m : ℕ) (A B : ℕ → ℕ → ℤ) (w : ℕ → ℤ) (x x′ u u′ : ℕ → ℤ) (i : ℕ) →
@@ -37,13 +37,17 @@ module _ (q : Problem) (y z : ℕ → ℕ → ℤ) (stepped : 1 ≤ q .horizon)
   unfolding inputSlope
   inputSlope-cong k j h = products-cong k (λ i. q .B i j) h
 
+  adjoint-cong : (k j : ℕ) → k < q .horizon → adjoint (q .n) (q .A) y k j ≡ adjoint (q .n) (q .A) z k j
+  unfolding adjoint
+  adjoint-cong k j h = products-cong k (λ i. q .A i j) h
+
   carried-cong : (k i : ℕ) → carried (q .n) (q .horizon) (q .A) y k i ≡ carried (q .n) (q .horizon) (q .A) z k i
   unfolding carried
   carried-cong k i = go (ltb (k + 1) (q .horizon)) refl
     where
       go : (t : Bool) → ltb (k + 1) (q .horizon) ≡ t →
-          cond t (sum (q .n) (λ p. y (k + 1) p *ℤ q .A p i)) (pos 0) ≡ cond t (sum (q .n) (λ p. z (k + 1) p *ℤ q .A p i)) (pos 0)
-      go true e = products-cong (k + 1) (λ p. q .A p i) (ltb-true (k + 1) (q .horizon) e)
+          cond t (adjoint (q .n) (q .A) y (k + 1) i) (pos 0) ≡ cond t (adjoint (q .n) (q .A) z (k + 1) i) (pos 0)
+      go true e = adjoint-cong (k + 1) i (ltb-true (k + 1) (q .horizon) e)
       go false e = refl
 
   pub stateSlope-cong : (k i : ℕ) → k < q .horizon → i < q .n → stateSlope (q .n) (q .horizon) (q .A) y k i ≡ stateSlope (q .n) (q .horizon) (q .A) z k i
@@ -60,7 +64,7 @@ module _ (q : Problem) (y z : ℕ → ℕ → ℤ) (stepped : 1 ≤ q .horizon)
   unfolding constant
   constant-cong =
       ap₂ (λ (a b : ℤ). a +ℤ b) (sum-cong (q .horizon) _ _ (λ k h. products-cong k (q .w) h))
-      (sum-cong (q .n) _ _ (λ i l. ap (λ (v : ℤ). sum (q .n) (λ j. v *ℤ q .A i j *ℤ q .start j)) (same 0 i (omega arith) l)))
+      (sum-cong (q .n) _ _ (λ j _. ap (λ (v : ℤ). v *ℤ q .start j) (adjoint-cong 0 j (omega arith))))
 
   sizes-cong : sizes (q .n) (q .horizon) y ≡ sizes (q .n) (q .horizon) z
   unfolding sizes

@@ -14,7 +14,7 @@ use Rattle.tape.specs.declared.Tape.{Tape}
 use Rattle.tape.specs.Reading.{obeySize, obeyEntry, lacks, absent, obeyEnd, obey, next, readFrom, reading}
 use Rattle.problem.specs.Model.{problemOf, planOf, multipliersOf, stateAt, modelSum, rounded, sumAt}
 use Rattle.problem.specs.Cost.{total, cost, planCost, costOf}
-use Rattle.problem.specs.Dual.{inputSlope, carried, stateSlope, conjugate, tilt, piece, pieces, constant, sizes, floor, floorOf, gapOf, larger, most, ceiling, shows}
+use Rattle.problem.specs.Dual.{inputSlope, adjoint, carried, stateSlope, conjugate, tilt, piece, pieces, constant, sizes, floor, floorOf, gapOf, larger, most, ceiling, shows}
 
 -- tape F, with the state's limits and reference and the wanted gap as given
 abbrev pub bytes : List ℕ → List ℕ → List ℕ
@@ -69,5 +69,5 @@ table =
     ∷ []
 
 pub figures : map (λ f. f .0) table ≡ map (λ f. f .1) table
-unfolding unsigned signed _÷_ sum sizeCommand stateCommand inputCommand driftCommand columnCommand startCommand roundsCommand decoded wrongSize beyond outside wrongColumn wrong obeySize obeyEntry lacks absent obeyEnd obey next readFrom reading stateAt modelSum rounded total cost planCost inputSlope carried stateSlope conjugate tilt piece pieces constant sizes floor larger most ceiling
+unfolding unsigned signed _÷_ sum sizeCommand stateCommand inputCommand driftCommand columnCommand startCommand roundsCommand decoded wrongSize beyond outside wrongColumn wrong obeySize obeyEntry lacks absent obeyEnd obey next readFrom reading stateAt modelSum rounded total cost planCost inputSlope adjoint carried stateSlope conjugate tilt piece pieces constant sizes floor larger most ceiling
 figures = refl

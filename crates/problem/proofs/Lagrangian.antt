@@ -1,6 +1,6 @@
 -- The residuals, each times its multiplier, sum to the plan's numbers, each times its slope, and the constant. A law over any
 -- functions of step and index: it says nothing of the model's rounding, of limits or of costs.
-use Prim.Native.Nat.{ℕ, zero, suc, _+_, _-_, _<_, _≤_}
+use Prim.Native.Nat.{ℕ, zero, suc, _+_, _<_, _≤_}
 use mathlib.Core.Path.{_≡_, sym, _∙_, ap, ap₂}
 use mathlib.Core.Bool.{Bool, cond}
 use native.Mathlib.Numerals.{add-one}
@@ -9,15 +9,15 @@ use lib.IntN.{ℤ, pos, negsuc, _+ℤ_, _-ℤ_, _*ℤ_, +ℤ-idr, zero-*ℤ}
 use borrow.Author.Tests.{lt-ltb, le-ltb}
 use Rattle.integer.specs.Sum.{sum}
 use Rattle.integer.proofs.Ring.{ring, con, K, _⊕_, _⊖_, _⊗_, _≐_}
-use Rattle.integer.proofs.Sum.{sum-last, sum-first, sum-cong, sum-zero, sum-add, sum-mul, sum-transpose}
+use Rattle.integer.proofs.Sum.{sum-last, sum-first, sum-cong, sum-zero, sum-add, sum-transpose}
 use Rattle.problem.specs.Model.{stateAt, modelSum}
 use Rattle.problem.specs.Cost.{total}
-use Rattle.problem.specs.Dual.{inputSlope, carried, stateSlope}
+use Rattle.problem.specs.Dual.{inputSlope, adjoint, carried, stateSlope}
 
 module _ (n m : ℕ) (A B : ℕ → ℕ → ℤ) (w start : ℕ → ℤ) (u x y : ℕ → ℕ → ℤ) where
   -- the parts of step k: of the states before it, of its inputs, of the drift, and of the states after it
   abbrev before : ℕ → ℤ
-  before k = sum n (λ i. sum n (λ q. y k q *ℤ A q i) *ℤ stateAt start x k i)
+  before k = sum n (λ i. adjoint n A y k i *ℤ stateAt start x k i)
 
   abbrev inputs : ℕ → ℤ
   inputs k = sum m (λ j. inputSlope n B y k j *ℤ u k j)
@@ -37,7 +37,7 @@ module _ (n m : ℕ) (A B : ℕ → ℕ → ℤ) (w start : ℕ → ℤ) (u x y 
 
   of-step : (k : ℕ) → sum n (λ i. y k i *ℤ (modelSum n m A B w (stateAt start x k) (u k) i -ℤ pos 4096 *ℤ x k i))
       ≡ before k +ℤ (inputs k +ℤ (drift k +ℤ after k))
-  unfolding modelSum inputSlope
+  unfolding modelSum inputSlope adjoint
   of-step k =
       sum-cong n _ _
       (λ i h. ring 5 (λ y a b w x. y ⊗ (a ⊕ b ⊕ w ⊖ K 4096 ⊗ x) ≐ y ⊗ a ⊕ (y ⊗ b ⊕ (y ⊗ w ⊕ con (negsuc 4095) ⊗ y ⊗ x))) tt
@@ -55,7 +55,7 @@ module _ (n m : ℕ) (A B : ℕ → ℕ → ℤ) (w start : ℕ → ℤ) (u x y 
   unfolding carried stateAt
   taken-next N k h =
       sum-cong n _ _
-      (λ i l. ap₂ (λ (p q : ℤ). p *ℤ q) (ap (λ (t : Bool). cond t (sum n (λ q. y (k + 1) q *ℤ A q i)) (pos 0)) (lt-ltb (k + 1) N h))
+      (λ i l. ap₂ (λ (p q : ℤ). p *ℤ q) (ap (λ (t : Bool). cond t (adjoint n A y (k + 1) i) (pos 0)) (lt-ltb (k + 1) N h))
       (ap (λ (j : ℕ). stateAt start x j i) (sym (add-one k))))
 
   taken-last : (M : ℕ) → taken (M + 1) M ≡ pos 0
@@ -69,15 +69,6 @@ module _ (n m : ℕ) (A B : ℕ → ℕ → ℤ) (w start : ℕ → ℤ) (u x y 
       ∙ +ℤ-idr (sum M (λ k. before (k + 1))))
       ∙ sym (sum-first M before)
 
-  -- at the first step the states before it are the start
-  started : before 0 ≡ sum n (λ i. sum n (λ j. y 0 i *ℤ A i j *ℤ start j))
-  unfolding stateAt
-  started =
-      sym (sum-transpose n n (y 0) start A)
-      ∙ sum-cong n _ _
-      (λ i h. sym (sum-mul n (y 0 i) (λ j. A i j *ℤ start j))
-      ∙ sum-cong n _ _ (λ j l. ring 3 (λ a b c. a ⊗ (b ⊗ c) ≐ a ⊗ b ⊗ c) tt (y 0 i) (A i j) (start j)))
-
   slopes-sum : (N k : ℕ) → sum n (λ i. stateSlope n N A y k i *ℤ x k i) ≡ after k +ℤ taken N k
   unfolding stateSlope
   slopes-sum N k =
@@ -87,22 +78,21 @@ module _ (n m : ℕ) (A B : ℕ → ℕ → ℤ) (w start : ℕ → ℤ) (u x y 
   lagrangian-from : (M : ℕ) →
       sum (M + 1) (λ k. sum n (λ i. y k i *ℤ (modelSum n m A B w (stateAt start x k) (u k) i -ℤ pos 4096 *ℤ x k i)))
       ≡ total n m (M + 1) (λ k j. inputSlope n B y k j *ℤ u k j) (λ k i. stateSlope n (M + 1) A y k i *ℤ x k i)
-      +ℤ (sum (M + 1) drift +ℤ sum n (λ i. sum n (λ j. y 0 i *ℤ A i j *ℤ start j)))
-  unfolding total
+      +ℤ (sum (M + 1) drift +ℤ sum n (λ j. adjoint n A y 0 j *ℤ start j))
+  unfolding total stateAt
   lagrangian-from M =
       let N = M + 1 in
       sum-cong N _ _ (λ k h. of-step k)
       ∙ sum-add N before _ ∙ ap (λ (z : ℤ). sum N before +ℤ z) (sum-add N inputs _ ∙ ap (λ (z : ℤ). sum N inputs +ℤ z) (sum-add N drift after))
       ∙ ap (λ (z : ℤ). z +ℤ (sum N inputs +ℤ (sum N drift +ℤ sum N after))) (sym (taken-sum M))
       ∙ ring 5 (λ b t i d a. (b ⊕ t) ⊕ (i ⊕ (d ⊕ a)) ≐ (i ⊕ (a ⊕ t)) ⊕ (d ⊕ b)) tt (before 0) (sum N (taken N)) (sum N inputs) (sum N drift) (sum N after)
-      ∙ ap₂ (λ (p q : ℤ). p +ℤ (sum N drift +ℤ q))
+      ∙ ap (λ (z : ℤ). z +ℤ (sum N drift +ℤ before 0))
       (ap (λ (z : ℤ). sum N inputs +ℤ z) (sym (sum-add N after (taken N)) ∙ sum-cong N _ _ (λ k h. sym (slopes-sum N k)))
       ∙ sym (sum-add N inputs (λ k. sum n (λ i. stateSlope n N A y k i *ℤ x k i))))
-      started
 
   pub lagrangian : (N : ℕ) → 1 ≤ N →
       sum N (λ k. sum n (λ i. y k i *ℤ (modelSum n m A B w (stateAt start x k) (u k) i -ℤ pos 4096 *ℤ x k i)))
       ≡ total n m N (λ k j. inputSlope n B y k j *ℤ u k j) (λ k i. stateSlope n N A y k i *ℤ x k i)
-      +ℤ (sum N drift +ℤ sum n (λ i. sum n (λ j. y 0 i *ℤ A i j *ℤ start j)))
+      +ℤ (sum N drift +ℤ sum n (λ j. adjoint n A y 0 j *ℤ start j))
   lagrangian zero h = let z : ⊥ = omega arith in absurd z
   lagrangian (suc M) h = rw (← add-one M) (lagrangian-from M)

@@ -17,9 +17,13 @@ use Rattle.problem.specs.Cost.{total, square, cost, costOf}
 unfoldable pub inputSlope : ℕ → (ℕ → ℕ → ℤ) → (ℕ → ℕ → ℤ) → ℕ → ℕ → ℤ
 inputSlope n B y k j = sum n (λ i. y k i *ℤ B i j)
 
--- What A adds to the slope of x(k+1,i): the sum over q of y(k+1,q) A(q,i), where there is a step k+1.
+-- The sum over q of y(k,q) A(q,j): A's transpose times y(k).
+unfoldable pub adjoint : ℕ → (ℕ → ℕ → ℤ) → (ℕ → ℕ → ℤ) → ℕ → ℕ → ℤ
+adjoint n A y k j = sum n (λ q. y k q *ℤ A q j)
+
+-- What A adds to the slope of x(k+1,i), where there is a step k+1.
 unfoldable pub carried : ℕ → ℕ → (ℕ → ℕ → ℤ) → (ℕ → ℕ → ℤ) → ℕ → ℕ → ℤ
-carried n horizon A y k i = cond (ltb (k + 1) horizon) (sum n (λ q. y (k + 1) q *ℤ A q i)) (pos 0)
+carried n horizon A y k i = cond (ltb (k + 1) horizon) (adjoint n A y (k + 1) i) (pos 0)
 
 -- Of x(k+1,i): −4096 y(k,i), and that.
 unfoldable pub stateSlope : ℕ → ℕ → (ℕ → ℕ → ℤ) → (ℕ → ℕ → ℤ) → ℕ → ℕ → ℤ
@@ -49,10 +53,11 @@ pieces q y =
 
 -- ---- Floor and gap
 
+-- The sum of y(k,i) w(i) over all k and i, plus y(0,i) A(i,j) x(0,j) over i and j, which is summed over i first.
 unfoldable pub constant : Problem → (ℕ → ℕ → ℤ) → ℤ
 constant q y =
     sum (q .horizon) (λ k. sum (q .n) (λ i. y k i *ℤ q .w i))
-    +ℤ sum (q .n) (λ i. sum (q .n) (λ j. y 0 i *ℤ q .A i j *ℤ q .start j))
+    +ℤ sum (q .n) (λ j. adjoint (q .n) (q .A) y 0 j *ℤ q .start j)
 
 -- The sum of |y|.
 unfoldable pub sizes : ℕ → ℕ → (ℕ → ℕ → ℤ) → ℤ

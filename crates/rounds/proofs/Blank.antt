@@ -12,7 +12,7 @@ use Rattle.integer.proofs.Limited.{limited-low, limited-high, size-limited}
 use Rattle.commands.specs.Ranges.{mostNumber, mostMultiplier}
 use Rattle.problem.specs.Model.{Term}
 use Rattle.problem.specs.Cost.{Within}
-use Rattle.evaluate.specs.Terms.{blankTerm}
+use Rattle.primal.specs.Terms.{blankTerm}
 use Rattle.rounds.specs.Rounds.{ahead, minimiser, ascended}
 
 pub size-ahead : (k y previous : ℤ) → natAbs (ahead k y previous) ≤ mostMultiplier

@@ -13,12 +13,12 @@ use Rattle.commands.specs.Ranges.{mostNumber}
 use Rattle.tape.specs.declared.Tape.{Tape}
 use Rattle.tape.specs.Legal.{Legal}
 use Rattle.problem.specs.Model.{Problem, Plan, problemOf, rounded}
-use Rattle.evaluate.specs.Padded.{paddedPlan}
-use Rattle.evaluate.specs.Terms.{TermsOf}
-use Rattle.evaluate.specs.Held.{HeldPlan}
-use Rattle.evaluate.proofs.LinearSizes.{modelAt}
-use Rattle.evaluate.proofs.Padding.{model-padded}
-use Rattle.evaluate.proofs.HeldSteps.{model-held, held-next}
+use Rattle.primal.specs.Padded.{paddedPlan}
+use Rattle.primal.specs.Terms.{TermsOf}
+use Rattle.primal.specs.Held.{HeldPlan}
+use Rattle.primal.proofs.ModelSizes.{modelAt}
+use Rattle.primal.proofs.Padding.{model-padded}
+use Rattle.primal.proofs.HeldSteps.{model-held, held-next}
 use Rattle.rounds.specs.Rounds.{modelStates, candidate, exceeds}
 use Rattle.rounds.specs.Held.{InputsWithin}
 use Rattle.rounds.proofs.ModelStates.{model-states}

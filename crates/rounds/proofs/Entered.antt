@@ -14,9 +14,9 @@ use Rattle.tape.specs.Legal.{Legal}
 use Rattle.problem.specs.Model.{problemOf, multipliersOf, residual}
 use Rattle.problem.specs.Dual.{floor, floorOf}
 use Rattle.problem.proofs.Congruence.{model-cong, cost-cong, inputSlope-cong, stateSlope-cong, floor-cong}
-use Rattle.evaluate.specs.Padded.{padded, paddedPlan}
-use Rattle.evaluate.specs.Held.{BlankMultipliers, HeldMultipliers, HeldPlan}
-use Rattle.evaluate.proofs.HeldSteps.{states-before}
+use Rattle.primal.specs.Padded.{padded, paddedPlan}
+use Rattle.primal.specs.Held.{BlankMultipliers, HeldMultipliers, HeldPlan}
+use Rattle.primal.proofs.HeldSteps.{states-before}
 use Rattle.rounds.specs.declared.Verdict.{Verdict}
 use Rattle.rounds.specs.declared.Verdict.the-variants.{Proved, Impossible, Neither}
 use Rattle.rounds.specs.Lent.{lentMultipliers, lentPlan}

@@ -14,12 +14,14 @@ use Rattle.tape.specs.declared.Tape.{Tape}
 use Rattle.tape.specs.Legal.{Legal}
 use Rattle.problem.specs.Model.{Term, problemOf, stateAt, modelSum, residual}
 use Rattle.problem.specs.Dual.{inputSlope, stateSlope}
-use Rattle.evaluate.specs.Padded.{stateMatrix, inputMatrix, padded, paddedPlan, byPlace, termAt}
-use Rattle.evaluate.specs.Terms.{blankTerm, TermsOf}
-use Rattle.evaluate.specs.Held.{BlankMultipliers, BlankPlan, HeldMultipliers, HeldPlan}
-use Rattle.evaluate.proofs.LinearSizes.{residualAt}
-use Rattle.evaluate.proofs.Padding.{model-padded, inputSlope-padded, stateSlope-padded}
-use Rattle.evaluate.proofs.Places.{place-input, place-state}
+use Rattle.primal.specs.Padded.{stateMatrix, inputMatrix, padded, paddedPlan, termAt}
+use Rattle.primal.specs.Terms.{blankTerm, TermsOf}
+use Rattle.primal.specs.Held.{BlankMultipliers, BlankPlan, HeldMultipliers, HeldPlan}
+use Rattle.primal.proofs.ModelSizes.{residualAt}
+use Rattle.primal.proofs.Padding.{model-padded}
+use Rattle.dual.specs.Slopes.{byPlace}
+use Rattle.dual.proofs.FloorPadding.{inputSlope-padded, stateSlope-padded}
+use Rattle.dual.proofs.ByPlace.{place-input, place-state}
 use Rattle.rounds.specs.Rounds.{ahead, minimiser, minimisers, ascended}
 use Rattle.rounds.specs.Held.{InputsWithin}
 use Rattle.rounds.proofs.Blank.{ahead-zero, ascended-zero, minimiser-blank, size-ahead, size-ascended, size-minimiser, minimiser-within}
@@ -69,7 +71,7 @@ module _ (t : Tape) (legal : Legal t) {penalty low high reference : List ℤ} (t
       let e = legal .steps .1 in
       ap₂ minimiser (terms .input k j (omega arith) m)
       (slopes .each k j h (omega arith) ∙ place-input _ _ k j (omega arith)
-      ∙ inputSlope-padded t legal penalty low high reference terms (padded y) (blank .each) k j)
+      ∙ inputSlope-padded t legal (padded y) (blank .each) k j)
 
   state-number : (k i : ℕ) → k < t .horizon → i < t .n → number (10 * k + (4 + i)) ≡ minimisers (problemOf t) (padded y) .x k i
   state-number k i h m =
@@ -77,7 +79,7 @@ module _ (t : Tape) (legal : Legal t) {penalty low high reference : List ℤ} (t
       let e = legal .steps .1 in
       ap₂ minimiser (terms .state k i (omega arith) m)
       (slopes .each k (4 + i) h (omega arith) ∙ place-state _ _ k i
-      ∙ stateSlope-padded t legal penalty low high reference terms (padded y) (blank .each) k i)
+      ∙ stateSlope-padded t legal (padded y) (blank .each) k i)
 
   pub held-numbers : {l : List ℤ} → Stretch 0 (10 * t .horizon) number (replicate 120 (pos 0)) l →
       HeldPlan (t .n) (t .m) (t .horizon) (minimisers (problemOf t) (padded y)) l

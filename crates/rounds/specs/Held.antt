@@ -8,8 +8,8 @@ use Rattle.tape.specs.declared.Tape.{Tape}
 use Rattle.tape.specs.declared.refusal.Refusal.the-variants.{Open}
 use Rattle.problem.specs.Model.{Problem, Plan}
 use Rattle.problem.specs.Cost.{Within}
-use Rattle.evaluate.specs.Padded.{padded, paddedPlan}
-use Rattle.evaluate.specs.Held.{HeldPlan}
+use Rattle.primal.specs.Padded.{padded, paddedPlan}
+use Rattle.primal.specs.Held.{HeldPlan}
 use Rattle.rounds.specs.declared.Verdict.{Verdict}
 use Rattle.rounds.specs.declared.Verdict.the-variants.{Proved, Impossible, Neither}
 use Rattle.rounds.specs.declared.Ended.{Ended}

@@ -5,8 +5,8 @@ ghost use lib.IntN.{pos, natAbs};
 ghost use Rattle.integer.specs.Order.{_≼_};
 ghost use Rattle.integer.specs.Places.{at, Bounded, Stretch};
 ghost use Rattle.commands.specs.Ranges.{mostGain, mostRounds, mostMultiplier};
-ghost use Rattle.evaluate.specs.Padded.{termAt};
-ghost use Rattle.evaluate.specs.Ranges.{Tables};
+ghost use Rattle.primal.specs.Padded.{termAt};
+ghost use Rattle.primal.specs.Ranges.{Tables, mostResidual};
 ghost use Rattle.rounds.specs.Rounds.{ahead, minimiser, ascended};
 use crate::numbers::ahead_of;
 use crate::numbers::ascended_of;
@@ -58,7 +58,7 @@ pub fn minimisers<'a>(
 
 // Step 4, from the residuals e.
 pub fn multipliers_ascended(y: &[i64; 72], e: &[i64; 72], gain: i64, horizon: usize) -> [i64; 72]
-    requires { ⌜ (natAbs gain ≤ mostGain) × (horizon ≤ 12) × Bounded mostMultiplier (now y) × Bounded 3375497216 (now e) ⌝ }
+    requires { ⌜ (natAbs gain ≤ mostGain) × (horizon ≤ 12) × Bounded mostMultiplier (now y) × Bounded mostResidual (now e) ⌝ }
     ensures { λ r. ⌜ Stretch 0 (6 * horizon) (λ p. ascended gain (at (now (y .entry)) p) (at (now (e .entry)) p)) (replicate 72 (pos 0)) r ⌝ }
 {
     let count = 6 * horizon;

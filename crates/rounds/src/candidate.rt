@@ -4,17 +4,18 @@ ghost use mathlib.Core.Path.{_≡_};
 ghost use lib.ListN.{length};
 ghost use Rattle.integer.specs.Places.{at, Bounded};
 ghost use Rattle.integer.specs.Tests.{outside, any};
-ghost use Rattle.commands.specs.Ranges.{mostEntry, mostDrift, mostNumber};
+ghost use Rattle.commands.specs.Ranges.{mostEntry, mostNumber};
 ghost use Rattle.tape.specs.Legal.{Legal};
 ghost use Rattle.problem.specs.Model.{problemOf, stateAt, modelSum, rounded};
-ghost use Rattle.evaluate.specs.Padded.{stateMatrix, inputMatrix, paddedPlan};
-ghost use Rattle.evaluate.specs.Terms.{TermsOf};
-ghost use Rattle.evaluate.specs.Held.{BlankPlan};
+ghost use Rattle.primal.specs.Padded.{stateMatrix, inputMatrix, paddedPlan};
+ghost use Rattle.primal.specs.Terms.{TermsOf};
+ghost use Rattle.primal.specs.Held.{BlankPlan};
+ghost use Rattle.primal.specs.Ranges.{mostForcing};
 ghost use Rattle.rounds.specs.Rounds.{candidate, dropped};
+use primal::model::model_sum;
+use primal::model::state_of;
+use primal::terms::Terms;
 ghost use Rattle.rounds.specs.Held.{InputsWithin, FilledUnless, HeldUnless};
-use evaluate::model::model_sum;
-use evaluate::model::state_of;
-use evaluate::terms::Terms;
 use integer::number::is_outside;
 use tape::Tape;
 
@@ -37,7 +38,7 @@ fn is_step_dropped<'a>(
     k: usize,
 ) -> bool
     requires { ⌜ (k < 12) × (n ≤ 6) × (length (now v) ≡ 120) × Bounded mostNumber (now v) ⌝ }
-    requires { ⌜ Bounded mostEntry (now a) × Bounded mostEntry (now b) × Bounded mostDrift (now drift) × Bounded mostNumber (now start) × Bounded mostNumber (now low) × Bounded mostNumber (now high) ⌝ }
+    requires { ⌜ Bounded mostEntry (now a) × Bounded mostEntry (now b) × Bounded mostForcing (now drift) × Bounded mostNumber (now start) × Bounded mostNumber (now low) × Bounded mostNumber (now high) ⌝ }
     ensures { λ r. ⌜ r ≡ any n (λ i. outside (at (now (low .entry)) (10 * k + (4 + i))) (at (now (high .entry)) (10 * k + (4 + i)))
         (rounded (modelSum 6 4 (stateMatrix (now (a .entry))) (inputMatrix (now (b .entry))) (at (now (drift .entry)))
         (stateAt (at (now (start .entry))) (paddedPlan (now (v .entry)) .x) k) (paddedPlan (now (v .entry)) .u k) i))) ⌝ }

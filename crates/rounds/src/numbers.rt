@@ -4,8 +4,8 @@ ghost use mathlib.Core.Path.{_≡_};
 ghost use lib.IntN.{pos, natAbs};
 ghost use Rattle.integer.specs.Order.{_≼_};
 ghost use Rattle.commands.specs.Ranges.{mostGain, mostRounds, mostMultiplier};
-ghost use Rattle.evaluate.specs.Padded.{termOf};
-ghost use Rattle.evaluate.specs.Ranges.{Ranged};
+ghost use Rattle.primal.specs.Padded.{termOf};
+ghost use Rattle.primal.specs.Ranges.{Ranged, mostResidual};
 ghost use Rattle.rounds.specs.Rounds.{ahead, minimiser, ascended};
 use commands::range::LEAST_MULTIPLIER;
 use commands::range::MOST_MULTIPLIER;
@@ -35,7 +35,7 @@ pub fn minimiser_of(p: i64, low: i64, high: i64, r: i64, s: i64) -> i64
 
 // The multiplier that follows y, from the residual e and the step size.
 pub fn ascended_of(gain: i64, y: i64, e: i64) -> i64
-    requires { ⌜ (natAbs gain ≤ mostGain) × (natAbs y ≤ mostMultiplier) × (natAbs e ≤ 3375497216) ⌝ }
+    requires { ⌜ (natAbs gain ≤ mostGain) × (natAbs y ≤ mostMultiplier) × (natAbs e ≤ mostResidual) ⌝ }
     ensures { λ r. ⌜ r ≡ ascended gain y e ⌝ }
 {
     limit(

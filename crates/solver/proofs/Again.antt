@@ -23,7 +23,7 @@ use Rattle.problem.specs.Model.{Problem, Plan, problemOf, planOf, rounded}
 use Rattle.problem.specs.Cost.{planCost, Follows}
 use Rattle.problem.specs.Dual.{floorOf, ceiling}
 use Rattle.problem.proofs.Congruence.{model-cong, cost-cong}
-use Rattle.evaluate.proofs.HeldSteps.{states-before}
+use Rattle.primal.proofs.HeldSteps.{states-before}
 use Rattle.lent.specs.Checks.{wrongPlanLength, wrongMultipliersLength}
 use Rattle.lent.proofs.LentMultipliers.{bounded-multipliers}
 use Rattle.judge.specs.declared.Judged.the-variants.{Gap}

@@ -5,7 +5,7 @@ ghost use mathlib.Core.List.{_++_};
 ghost use lib.ListN.{length};
 ghost use Rattle.integer.specs.Places.{at, Bounded};
 ghost use Rattle.commands.specs.Ranges.{mostNumber, mostMultiplier};
-ghost use Rattle.evaluate.specs.Padded.{padded, paddedPlan};
+ghost use Rattle.primal.specs.Padded.{padded, paddedPlan};
 ghost use Rattle.rounds.specs.Lent.{listed, lentMultipliers, lentPlan};
 
 // Fills a part with the numbers from a place on.

@@ -8,9 +8,11 @@ use Rattle.integer.proofs.Sizes.{called, size-parts, size-sub, back, back-is, F
 use Rattle.problem.specs.Model.{problemOf}
 use Rattle.problem.specs.Cost.{planCost}
 use Rattle.problem.specs.Dual.{floor}
-use Rattle.evaluate.specs.Padded.{padded, paddedPlan, paddedProblem}
-use Rattle.evaluate.proofs.Padding.{cost-padded, floor-padded}
-use Rattle.evaluate.proofs.FloorSizes.{size-plan-cost, size-floor}
+use Rattle.primal.specs.Padded.{padded, paddedPlan, paddedProblem}
+use Rattle.primal.proofs.Padding.{cost-padded}
+use Rattle.primal.proofs.TermSums.{size-plan-cost}
+use Rattle.dual.proofs.FloorPadding.{floor-padded}
+use Rattle.dual.proofs.FloorSizes.{size-floor}
 use Rattle.judge.specs.Judging.{gapWithin}
 use Rattle.judge.proofs.judge_gap.Statement.{statement}
 use Rattle.judge.proofs.judge_gap.Tie as tie

@@ -6,8 +6,9 @@ use borrow.Author.Tests.{eq-eqb, ne-eqb}
 use Prim.Native.Nat.{_+_}
 use lib.IntN.{ℤ, _-ℤ_}
 use Rattle.problem.specs.Model.{problemOf, planOf}
-use Rattle.evaluate.specs.Held.{HeldPlan}
-use Rattle.evaluate.proofs.Held.{count-fits, floor-held, cost-held}
+use Rattle.primal.specs.Held.{HeldPlan}
+use Rattle.primal.proofs.Lengths.{count-fits}
+use Rattle.primal.proofs.Held.{floor-held, cost-held}
 use Rattle.lent.specs.declared.walk.Check.the-variants.{Passed}
 use Rattle.lent.specs.Checks.{wrongMultipliers, planCheck}
 use Rattle.judge.specs.Judging.{gapWithin, judgedOn}

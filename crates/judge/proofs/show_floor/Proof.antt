@@ -3,8 +3,9 @@ use borrow.Author.Needs.{needs}
 use Rattle.integer.proofs.Sizes.{called, back}
 use Rattle.problem.specs.Model.{problemOf}
 use Rattle.problem.specs.Dual.{floor, ceiling}
-use Rattle.evaluate.specs.Padded.{padded}
-use Rattle.evaluate.proofs.Padding.{ceiling-padded, floor-padded}
+use Rattle.primal.specs.Padded.{padded}
+use Rattle.primal.proofs.Padding.{ceiling-padded}
+use Rattle.dual.proofs.FloorPadding.{floor-padded}
 use Rattle.judge.specs.Judging.{floorAbove}
 use Rattle.judge.proofs.show_floor.Statement.{statement}
 use Rattle.judge.proofs.show_floor.Tie as tie

@@ -3,7 +3,8 @@ use mathlib.Core.Bool.{false}
 use native.Mathlib.Omega.{arith}
 use borrow.Author.Needs.{needs}
 use borrow.Author.Tests.{eq-eqb, ne-eqb}
-use Rattle.evaluate.proofs.Held.{count-fits, floor-held}
+use Rattle.primal.proofs.Lengths.{count-fits}
+use Rattle.primal.proofs.Held.{floor-held}
 use Rattle.lent.specs.Checks.{wrongMultipliers}
 use Rattle.judge.specs.Judging.{floorAbove, shownOn}
 use Rattle.judge.proofs.show_on.Statement.{statement}

@@ -2,12 +2,12 @@ use mathlib.Core.Path.{_∙_}
 use borrow.Author.Needs.{needs}
 use lib.IntN.{_+ℤ_}
 use Rattle.integer.specs.Places.{Bounded}
-use Rattle.integer.proofs.Sizes.{called, back, Formed}
+use Rattle.integer.proofs.Sizes.{back, Formed}
 use Rattle.problem.specs.Dual.{constant, floor}
-use Rattle.evaluate.specs.Padded.{padded, paddedProblem}
-use Rattle.evaluate.proofs.FloorSizes.{size-floor, floor-formed}
-use Rattle.evaluate.proofs.LinearSizes.{slopes-bounded}
-use Rattle.evaluate.proofs.Padding.{floor-padded}
+use Rattle.primal.specs.Padded.{padded, paddedProblem}
+use Rattle.dual.proofs.FloorSizes.{size-floor, floor-formed}
+use Rattle.dual.proofs.SlopeSizes.{slopes-bounded}
+use Rattle.dual.proofs.FloorPadding.{floor-padded}
 use Rattle.rounds.proofs.Filled.{held-numbers}
 use Rattle.rounds.proofs.dual_at.Statement.{statement}
 use Rattle.rounds.proofs.dual_at.Tie as tie
@@ -46,7 +46,7 @@ total c =
     let s = start d in
     let l = s .pre .0 .0 in
     floor-formed (s .pre .0 .1 .tables) (s .args .t1 .horizon) (l .steps .1) (l .a) (l .b) (l .drift) (l .start) (s .pre .1 .1) (d .slopes .ensures)
-    (called (p .result) (p .ok) ∙ p .ensures) (called (o .result) (o .ok) ∙ o .ensures)
+    (p .ok) (p .ensures) (o .ok) (o .ensures)
 
 slopes-requires : tie.Need-slopes-requires
 slopes-requires c κs = search needs

@@ -9,9 +9,9 @@ use Rattle.integer.proofs.Order.{order}
 use Rattle.integer.proofs.Sizes.{fits-by, called, back, back-is}
 use Rattle.problem.specs.Model.{problemOf}
 use Rattle.problem.specs.Dual.{floor, ceiling}
-use Rattle.evaluate.specs.Padded.{padded, paddedPlan}
-use Rattle.evaluate.specs.Held.{HeldMultipliers}
-use Rattle.evaluate.proofs.Padding.{ceiling-padded}
+use Rattle.primal.specs.Padded.{padded, paddedPlan}
+use Rattle.primal.specs.Held.{HeldMultipliers}
+use Rattle.primal.proofs.Padding.{ceiling-padded}
 use Rattle.rounds.specs.Rounds.{ahead, candidate, verdict}
 use Rattle.rounds.proofs.Entered.{Running, running-start, proved-is, impossible-is, running-next, open-is}
 use Rattle.rounds.proofs.Filled.{zeros-bounded, held-ahead, inputs-within}

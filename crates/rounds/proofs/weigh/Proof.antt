@@ -10,11 +10,11 @@ use Rattle.integer.proofs.Sizes.{called, size-parts, size-sub, back, back-is, F
 use Rattle.problem.specs.Model.{problemOf}
 use Rattle.problem.specs.Cost.{planCost}
 use Rattle.problem.specs.Dual.{ceiling}
-use Rattle.evaluate.specs.Padded.{paddedPlan, paddedProblem}
-use Rattle.evaluate.specs.Held.{HeldPlan}
-use Rattle.evaluate.proofs.FloorSizes.{size-plan-cost}
-use Rattle.evaluate.proofs.Padding.{cost-padded}
-use Rattle.evaluate.proofs.Held.{cost-held}
+use Rattle.primal.specs.Padded.{paddedPlan, paddedProblem}
+use Rattle.primal.specs.Held.{HeldPlan}
+use Rattle.primal.proofs.TermSums.{size-plan-cost}
+use Rattle.primal.proofs.Padding.{cost-padded}
+use Rattle.primal.proofs.Held.{cost-held}
 use Rattle.rounds.specs.Rounds.{candidate, dropped}
 use Rattle.rounds.specs.Held.{HeldUnless}
 use Rattle.rounds.proofs.Verdicts.{accepted, onFloor, when-dropped, when-wide, nothing-held}

@@ -7,7 +7,7 @@ use borrow.Author.Tests.{lt-ltb, le-ltb}
 use mir.Facts.{toZ-ofZ}
 use Rattle.integer.specs.Places.{at}
 use Rattle.integer.proofs.Sizes.{called, bounded-fits}
-use Rattle.evaluate.specs.Padded.{paddedPlan}
+use Rattle.primal.specs.Padded.{paddedPlan}
 use Rattle.solver.specs.Solving.{duty}
 use Rattle.solver.proofs.Written.{first-inputs}
 use Rattle.solver.proofs.duty_at.Statement.{statement}

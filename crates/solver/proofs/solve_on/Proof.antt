@@ -3,7 +3,7 @@ use mathlib.Core.Path.{refl}
 use native.Mathlib.Omega.{arith}
 use borrow.Author.Needs.{needs}
 use borrow.Author.Tests.{eq-eqb, ne-eqb}
-use Rattle.evaluate.proofs.Held.{count-fits}
+use Rattle.primal.proofs.Lengths.{count-fits}
 use Rattle.solver.specs.Solving.{solvingOn}
 use Rattle.solver.proofs.solve_on.Statement.{statement}
 use Rattle.solver.proofs.solve_on.Tie as tie

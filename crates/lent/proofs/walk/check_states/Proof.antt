@@ -10,8 +10,8 @@ use Rattle.integer.specs.Places.{at, Bounded, Stretch}
 use Rattle.integer.proofs.Sizes.{called, back, Formed, widened}
 use Rattle.integer.proofs.Places.{stretch-none, stretch-store, stretch-bounded}
 use Rattle.commands.specs.Ranges.{mostNumber}
-use Rattle.evaluate.proofs.LinearSizes.{modelAt, size-model}
-use Rattle.evaluate.proofs.HeldSteps.{model-kept}
+use Rattle.primal.proofs.ModelSizes.{modelAt, size-model}
+use Rattle.primal.proofs.HeldSteps.{model-kept}
 use Rattle.lent.specs.declared.walk.Check.the-variants.{Passed}
 use Rattle.lent.specs.Checks.{first, stateCheck}
 use Rattle.lent.proofs.Steps.{first-none, first-passed, first-refused, first-each, state-size, stateCheckAt}

@@ -5,6 +5,7 @@ use denote.Ref.{now}
 use lib.ListN.{length}
 use borrow.Author.Needs.{needs}
 use Rattle.integer.specs.Places.{Stretch}
+use Rattle.integer.proofs.Sizes.{wider}
 use Rattle.integer.proofs.Places.{step-room, all-bounded}
 use Rattle.problem.specs.Model.{planOf}
 use Rattle.lent.specs.declared.walk.Check.the-variants.{Passed}
@@ -73,7 +74,7 @@ check-states-requires c κs =
       (
         legal .a,
         legal .b,
-        legal .drift,
+        wider (legal .drift) (omega arith),
         legal .start,
         all-bounded (s .args .t2 .low) 120 (long s .0) (λ p h. terms .tables .each p h .low),
         all-bounded (s .args .t2 .high) 120 (long s .1) (λ p h. terms .tables .each p h .high),

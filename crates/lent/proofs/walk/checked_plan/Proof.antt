@@ -3,8 +3,8 @@ use mathlib.Core.Path.{_≡_, sym, _∙_}
 use native.Mathlib.Omega.{arith}
 use borrow.Author.Needs.{needs}
 use Rattle.problem.specs.Model.{problemOf, planOf}
-use Rattle.evaluate.specs.Held.{HeldPlan}
-use Rattle.evaluate.proofs.HeldSteps.{held-none}
+use Rattle.primal.specs.Held.{HeldPlan}
+use Rattle.primal.proofs.HeldSteps.{held-none}
 use Rattle.lent.specs.declared.walk.Check.the-variants.{Passed}
 use Rattle.lent.specs.Checks.{first, stepCheck, planCheck}
 use Rattle.lent.proofs.Steps.{first-none, first-passed, first-refused}

@@ -1,11 +1,10 @@
 use Prim.Native.Nat.{_≤_}
 use mathlib.Core.Path.{_≡_, refl}
 use native.Mathlib.Omega.{arith}
-use borrow.Author.Needs.{needs}
 use lib.IntN.{natAbs}
 use Rattle.integer.proofs.Order.{order}
-use Rattle.integer.proofs.Sizes.{size-parts, back, back-is}
-use Rattle.evaluate.proofs.LinearSizes.{residuals-bounded}
+use Rattle.integer.proofs.Sizes.{size-parts, back, back-is, wider}
+use Rattle.primal.proofs.ModelSizes.{residuals-bounded}
 use Rattle.rounds.proofs.Filled.{held-ascended}
 use Rattle.rounds.proofs.RoundState.next.Statement.{statement}
 use Rattle.rounds.proofs.RoundState.next.Tie as tie
@@ -22,7 +21,10 @@ gain-is : (s : tie.Start) → back (s .args .t2 .gain) ≡ s .args .t2 .gain
 gain-is s = back-is (s .args .t2 .gain) (small s) (omega arith)
 
 residuals-requires : tie.Need-residuals-requires
-residuals-requires c κs = search needs
+residuals-requires c κs =
+    let h = c .before .before .before .before .before .before .before .before .pre in
+    let l = h .0 in
+    (l .steps .1, l .a, l .b, wider (l .drift) (omega arith), l .start, h .4)
 
 multipliers-ascended-requires : tie.Need-multipliers-ascended-requires
 multipliers-ascended-requires c κs =
@@ -34,7 +36,7 @@ multipliers-ascended-requires c κs =
       omega arith,
       l .steps .1,
       h .2,
-      residuals-bounded (s .args .t2 .horizon) (l .a) (l .b) (l .drift) (l .start) (h .4) (r .residuals .ensures),
+      residuals-bounded (s .args .t2 .horizon) (l .a) (l .b) (wider (l .drift) (omega arith)) (l .start) (h .4) (r .residuals .ensures),
     )
 
 returns : tie.Need-returns

@@ -7,8 +7,8 @@ use borrow.Author.Needs.{needs}
 use Rattle.integer.specs.Places.{at, Stretch}
 use Rattle.integer.proofs.Places.{stretch-none, fill-store}
 use Rattle.integer.proofs.Sizes.{called, element-is}
-use Rattle.evaluate.specs.Padded.{termAt}
-use Rattle.evaluate.proofs.TermSizes.{term-is, copied}
+use Rattle.primal.specs.Padded.{termAt}
+use Rattle.primal.proofs.TermSums.{term-is, copied}
 use Rattle.rounds.specs.Rounds.{minimiser}
 use Rattle.rounds.proofs.arrays.minimisers.Statement.{statement}
 use Rattle.rounds.proofs.arrays.minimisers.Tie as tie

@@ -6,12 +6,13 @@ use lib.ListN.{length}
 use borrow.Author.Needs.{needs}
 use Rattle.integer.specs.Places.{Bounded}
 use Rattle.integer.specs.Tests.{any}
+use Rattle.integer.proofs.Sizes.{wider}
 use Rattle.integer.proofs.Places.{all-bounded}
 use Rattle.integer.proofs.Tests.{any-at, any-more}
 use Rattle.commands.specs.Ranges.{mostNumber}
 use Rattle.problem.specs.Model.{problemOf}
-use Rattle.evaluate.specs.Padded.{paddedPlan}
-use Rattle.evaluate.proofs.HeldSteps.{held-start}
+use Rattle.primal.specs.Padded.{paddedPlan}
+use Rattle.primal.proofs.HeldSteps.{held-start}
 use Rattle.rounds.specs.Rounds.{candidate, dropped}
 use Rattle.rounds.proofs.CandidateSteps.{stepDropped, Begun, step-tested, step-begun}
 use Rattle.rounds.proofs.candidate.candidate_of.Statement.{statement}
@@ -50,7 +51,7 @@ is-step-dropped-requires c κs =
     let held = turn .before .loop .inv .2 .held in
     let limits = limits-bounded s in (
       (omega (arith, early turn, legal .steps), legal .states .1, held .long, held .bounded),
-      (legal .a, legal .b, legal .drift, legal .start, limits .0, limits .1),
+      (legal .a, legal .b, wider (legal .drift) (omega arith), legal .start, limits .0, limits .1),
     )
 
 abbrev turn : tie.After-is-step-dropped Inv-loop μ-loop → tie.In-loop Inv-loop μ-loop

@@ -12,8 +12,8 @@ use Rattle.integer.proofs.Places.{stretch-none, stretch-store}
 use Rattle.integer.proofs.Tests.{any-at, any-more}
 use Rattle.commands.specs.Ranges.{mostNumber}
 use Rattle.problem.specs.Model.{rounded}
-use Rattle.evaluate.proofs.LinearSizes.{modelAt, size-model}
-use Rattle.evaluate.proofs.HeldSteps.{model-kept}
+use Rattle.primal.proofs.ModelSizes.{modelAt, size-model}
+use Rattle.primal.proofs.HeldSteps.{model-kept}
 use Rattle.rounds.proofs.CandidateSteps.{nextState, isOver, step-bounded}
 use Rattle.rounds.proofs.candidate.is_step_dropped.Statement.{statement}
 use Rattle.rounds.proofs.candidate.is_step_dropped.Tie as tie

@@ -7,6 +7,7 @@ use mir.Facts.{toZ-ofZ}
 use borrow.Author.Needs.{needs}
 use Rattle.integer.specs.Quotient.{_÷_}
 use Rattle.integer.proofs.Sizes.{size-add, size-mul, called, back, Formed, formed}
+use Rattle.primal.specs.Ranges.{mostResidual}
 use Rattle.rounds.specs.Rounds.{ascended}
 use Rattle.rounds.proofs.NumberSizes.{moved}
 use Rattle.rounds.proofs.numbers.ascended_of.Statement.{statement}
@@ -19,13 +20,13 @@ module _ (c : tie.Start) where
   abbrev gain : ℤ
   gain = c .args .gain
 
-  size-product : natAbs (e *ℤ gain) ≤ 3375497216 * 65535
+  size-product : natAbs (e *ℤ gain) ≤ mostResidual * 65535
   size-product = size-mul e gain (c .pre .2) (c .pre .0)
 
   product : Formed (back e *ℤ back gain) (e *ℤ gain)
   product = formed (rw (toZ-ofZ (c .fits .e), toZ-ofZ (c .fits .gain))) size-product (omega arith)
 
-  size-dividend : natAbs (e *ℤ gain +ℤ pos 32768) ≤ 3375497216 * 65535 + 32768
+  size-dividend : natAbs (e *ℤ gain +ℤ pos 32768) ≤ mostResidual * 65535 + 32768
   size-dividend = size-add (e *ℤ gain) (pos 32768) size-product (le-refl 32768)
 
   dividend : Formed (back (back e *ℤ back gain) +ℤ pos 32768) (e *ℤ gain +ℤ pos 32768)

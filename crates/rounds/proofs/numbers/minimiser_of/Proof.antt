@@ -8,7 +8,8 @@ use borrow.Author.Needs.{needs}
 use Rattle.integer.proofs.Parts.{times}
 use Rattle.integer.proofs.Order.{order}
 use Rattle.integer.proofs.Sizes.{size-add, size-sub, size-mul, called, back, Formed, formed}
-use Rattle.evaluate.proofs.TermSizes.{near, doubled}
+use Rattle.primal.proofs.TermSizes.{near}
+use Rattle.dual.proofs.PieceSizes.{doubled}
 use Rattle.rounds.specs.Rounds.{minimiser}
 use Rattle.rounds.proofs.numbers.minimiser_of.Statement.{statement}
 use Rattle.rounds.proofs.numbers.minimiser_of.Tie as tie

@@ -5,7 +5,7 @@ use lib.ListN.{length}
 use denote.Ref.{now}
 use borrow.Author.Needs.{needs}
 use borrow.Rule.Slice.PartMut.{midOf}
-use Rattle.evaluate.specs.Padded.{padded}
+use Rattle.primal.specs.Padded.{padded}
 use Rattle.rounds.specs.Lent.{listed}
 use Rattle.rounds.proofs.Lent.{length-listed}
 use Rattle.solver.proofs.Written.{WrittenSteps, written-none, written-room, written-more, written-whole, written-part}

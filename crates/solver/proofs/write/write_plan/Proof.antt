@@ -4,7 +4,7 @@ use native.Mathlib.Omega.{arith}
 use lib.ListN.{length}
 use denote.Ref.{now}
 use borrow.Author.Needs.{needs}
-use Rattle.evaluate.specs.Padded.{paddedPlan}
+use Rattle.primal.specs.Padded.{paddedPlan}
 use Rattle.rounds.specs.Lent.{listed}
 use Rattle.rounds.proofs.Lent.{length-step}
 use Rattle.solver.proofs.Written.{WrittenSteps, written-none, written-room, written-more, written-whole, written-part}

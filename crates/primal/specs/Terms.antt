@@ -1,0 +1,30 @@
+-- A tape's terms at padded places.
+use Prim.Native.Nat.{ℕ, _+_, _*_, _-_, _<_, _≤_}
+use mathlib.Core.Path.{_≡_}
+use mathlib.Core.Bool.{cond}
+use mathlib.Core.List.{List}
+use lib.Dec.{ltb}
+use lib.IntN.{ℤ, pos}
+use Rattle.integer.specs.Places.{at}
+use Rattle.tape.specs.declared.Tape.{Tape}
+use Rattle.problem.specs.Model.{Term, columnTerm}
+use Rattle.primal.specs.Padded.{termOf, termAt}
+use Rattle.primal.specs.Ranges.{Tables}
+
+-- The number of a column for place c of a step: inputs are columns n on, at places 0 to m−1; states are columns 0 on, at places 4
+-- on; `blank` beyond the sizes.
+unfoldable pub placed : List ℤ → ℕ → ℕ → ℤ → ℕ → ℤ
+placed column n m blank c =
+    cond (ltb c 4) (cond (ltb c m) (at column (n + c)) blank) (cond (ltb (c - 4) n) (at column (c - 4)) blank)
+
+-- Beyond the sizes: it costs nothing at 0, and its limits leave only 0.
+abbrev pub blankTerm : Term
+blankTerm = termOf (pos 4096) (pos 0) (pos 0) (pos 0)
+
+-- The tables hold the terms of the tape's columns in every step.
+pub record TermsOf (t : Tape) (penalty low high reference : List ℤ) : Type 0 where
+  pub input : (k j : ℕ) → k < 12 → j < t .m → termAt penalty low high reference (10 * k + j) ≡ columnTerm t (t .n + j) k
+  pub state : (k i : ℕ) → k < 12 → i < t .n → termAt penalty low high reference (10 * k + (4 + i)) ≡ columnTerm t i k
+  pub noInput : (k j : ℕ) → k < 12 → t .m ≤ j → j < 4 → termAt penalty low high reference (10 * k + j) ≡ blankTerm
+  pub noState : (k i : ℕ) → k < 12 → t .n ≤ i → i < 6 → termAt penalty low high reference (10 * k + (4 + i)) ≡ blankTerm
+  pub tables : Tables penalty low high reference

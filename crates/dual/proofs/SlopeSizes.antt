@@ -5,7 +5,7 @@ use mathlib.Core.List.{List}
 use native.Mathlib.Omega.{arith}
 use native.Mathlib.Nat.{le-refl, le-trans}
 use lib.Dec.{ltb}
-use lib.IntN.{ℤ, pos, negsuc, natAbs, _+ℤ_, _*ℤ_}
+use lib.IntN.{ℤ, pos, negsuc, natAbs, _*ℤ_}
 use Rattle.integer.specs.Places.{at, Bounded, Steps}
 use Rattle.integer.proofs.Sizes.{size-add, size-mul}
 use Rattle.integer.proofs.Places.{steps-bounded}

@@ -1,6 +1,6 @@
 -- The residuals, each times its multiplier, sum to the plan's numbers, each times its slope, and the constant. A law over any
 -- functions of step and index: it says nothing of the model's rounding, of limits or of costs.
-use Prim.Native.Nat.{ℕ, zero, suc, _+_, _-_, _<_, _≤_}
+use Prim.Native.Nat.{ℕ, zero, suc, _+_, _<_, _≤_}
 use mathlib.Core.Path.{_≡_, sym, _∙_, ap, ap₂}
 use mathlib.Core.Bool.{Bool, cond}
 use native.Mathlib.Numerals.{add-one}

@@ -25,11 +25,13 @@ pub place-state : (f g : ℕ → ℕ → ℤ) (k i : ℕ) → byPlace f g k (4 +
 unfolding byPlace
 place-state f g k i = let e : 4 + i - 4 ≡ i = omega arith in rw (le-ltb (4 + i) 4 (omega arith), e)
 
+-- what `slopes` gives, by step and place
+abbrev pub slopeAt : List ℤ → List ℤ → List ℤ → ℕ → ℕ → ℕ → ℤ
+slopeAt a b y horizon = byPlace (inputSlope 6 (inputMatrix b) (padded y)) (stateSlope 6 horizon (stateMatrix a) (padded y))
+
 -- the pieces by place, from the slopes by place
 pub pieces-places : (N : ℕ) (a b drift start penalty low high reference y s : List ℤ) →
-    Steps 10 N (byPlace (inputSlope 6 (inputMatrix b) (padded y)) (stateSlope 6 N (stateMatrix a) (padded y))) s →
-    sum (10 * N) (λ p. piece (termAt penalty low high reference p) (at s p))
-    ≡ pieces (paddedProblem N a b drift start penalty low high reference) (padded y)
+    Steps 10 N (slopeAt a b y N) s → sum (10 * N) (λ p. piece (termAt penalty low high reference p) (at s p)) ≡ pieces (paddedProblem N a b drift start penalty low high reference) (padded y)
 unfolding pieces
 pieces-places N a b drift start penalty low high reference y s h =
     let f = inputSlope 6 (inputMatrix b) (padded y) in

@@ -14,27 +14,28 @@ use Rattle.problem.specs.Dual.{inputSlope, adjoint, carried, stateSlope}
 use Rattle.primal.specs.Padded.{stateMatrix, inputMatrix, padded}
 use Rattle.primal.proofs.ProductSizes.{size-products}
 use Rattle.dual.specs.Slopes.{byPlace, mostSlope}
+use Rattle.dual.proofs.ByPlace.{slopeAt}
 
 pub size-inputSlope : {b y : List ℤ} → Bounded mostEntry b → Bounded mostMultiplier y → (k j : ℕ) →
-    natAbs (inputSlope 6 (inputMatrix b) (padded y) k j) ≤ 1649267441664
+    natAbs (inputSlope 6 (inputMatrix b) (padded y) k j) ≤ 6 * (mostMultiplier * mostEntry)
 unfolding inputSlope
 size-inputSlope hb hy k j = size-products hy hb 6 (λ i. 6 * k + i) (λ i. 4 * i + j)
 
 pub size-adjoint : {a y : List ℤ} → Bounded mostEntry a → Bounded mostMultiplier y → (k j : ℕ) →
-    natAbs (adjoint 6 (stateMatrix a) (padded y) k j) ≤ 1649267441664
+    natAbs (adjoint 6 (stateMatrix a) (padded y) k j) ≤ 6 * (mostMultiplier * mostEntry)
 unfolding adjoint
 size-adjoint ha hy k j = size-products hy ha 6 (λ q. 6 * k + q) (λ q. 6 * q + j)
 
 size-carried : {a y : List ℤ} → Bounded mostEntry a → Bounded mostMultiplier y → (horizon k i : ℕ) →
-    natAbs (carried 6 horizon (stateMatrix a) (padded y) k i) ≤ 1649267441664
+    natAbs (carried 6 horizon (stateMatrix a) (padded y) k i) ≤ 6 * (mostMultiplier * mostEntry)
 unfolding carried
 size-carried {a} {y} ha hy horizon k i = go (ltb (k + 1) horizon)
   where
-    go : (t : Bool) → natAbs (cond t (adjoint 6 (stateMatrix a) (padded y) (k + 1) i) (pos 0)) ≤ 1649267441664
+    go : (t : Bool) → natAbs (cond t (adjoint 6 (stateMatrix a) (padded y) (k + 1) i) (pos 0)) ≤ 6 * (mostMultiplier * mostEntry)
     go true = size-adjoint ha hy (k + 1) i
     go false = omega arith
 
-pub size-scaled : {y : List ℤ} → Bounded mostMultiplier y → (p : ℕ) → natAbs (negsuc 4095 *ℤ at y p) ≤ 68719476736
+pub size-scaled : {y : List ℤ} → Bounded mostMultiplier y → (p : ℕ) → natAbs (negsuc 4095 *ℤ at y p) ≤ 4096 * mostMultiplier
 size-scaled {y} hy p = size-mul (negsuc 4095) (at y p) (le-refl 4096) (hy .each p)
 
 pub size-stateSlope : {a y : List ℤ} → Bounded mostEntry a → Bounded mostMultiplier y → (horizon k i : ℕ) →
@@ -52,10 +53,6 @@ size-byPlace {B} f g hf hg k c = go (ltb c 4)
     go : (t : Bool) → natAbs (cond t (f k c) (g k (c - 4))) ≤ B
     go true = hf k c
     go false = hg k (c - 4)
-
--- what `slopes` gives, by step and place
-abbrev pub slopeAt : List ℤ → List ℤ → List ℤ → ℕ → ℕ → ℕ → ℤ
-slopeAt a b y horizon = byPlace (inputSlope 6 (inputMatrix b) (padded y)) (stateSlope 6 horizon (stateMatrix a) (padded y))
 
 pub slopes-bounded : {a b y s : List ℤ} (horizon : ℕ) → Bounded mostEntry a → Bounded mostEntry b → Bounded mostMultiplier y →
     Steps 10 horizon (slopeAt a b y horizon) s → Bounded mostSlope s

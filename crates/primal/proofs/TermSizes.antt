@@ -24,10 +24,10 @@ pub near : {t : Term} → Ranged t → (v : ℤ) → natAbs v ≤ mostNumber →
 near g v h = record { penalty = g .penalty; number = h; reference = g .reference }
 
 module _ {p v r : ℤ} (n : Near p v r) where
-  pub size-distance : natAbs (v -ℤ r) ≤ 40000
+  pub size-distance : natAbs (v -ℤ r) ≤ 2 * mostNumber
   size-distance = size-sub v r (n .number) (n .reference)
 
-  size-square : natAbs ((v -ℤ r) *ℤ (v -ℤ r)) ≤ 40000 * 40000
+  size-square : natAbs ((v -ℤ r) *ℤ (v -ℤ r)) ≤ 2 * mostNumber * (2 * mostNumber)
   size-square = size-mul (v -ℤ r) (v -ℤ r) size-distance size-distance
 
   pub size-cost : natAbs (p *ℤ ((v -ℤ r) *ℤ (v -ℤ r))) ≤ mostCost

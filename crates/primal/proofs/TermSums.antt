@@ -18,6 +18,10 @@ use Rattle.primal.specs.Ranges.{Ranged, Tables}
 use Rattle.primal.proofs.Places.{size-total}
 use Rattle.primal.proofs.TermSizes.{mostCost, near, size-cost}
 
+-- f of the term and the number v of each of the first n places
+abbrev pub termSum : (Term → ℤ → ℤ) → List ℤ → List ℤ → List ℤ → List ℤ → (ℕ → ℤ) → ℕ → ℤ
+termSum f penalty low high reference v n = sum n (λ p. f (termAt penalty low high reference p) (v p))
+
 -- the term at place p as the code reads it
 abbrev pub termRead : List ℤ → List ℤ → List ℤ → List ℤ → ℕ → Term
 termRead penalty low high reference p = termOf (back (at penalty p)) (back (at low p)) (back (at high p)) (back (at reference p))
@@ -36,12 +40,13 @@ module _ {penalty low high reference : List ℤ} (tables : Tables penalty low hi
   pub copied : (p : ℕ) → p < 120 → Ranged (termRead penalty low high reference p)
   copied p h = subst⁻¹ Ranged (term-is p h) (tables .each p h)
 
-  -- f of each place's term and number v, at most B in size: a loop's total, and r, what f gives for place p as the code reads it
-  pub place-added : (f : Term → ℤ → ℤ) (v : ℕ → ℤ) {B : ℕ} → ((p : ℕ) → p < 120 → natAbs (f (termAt penalty low high reference p) (v p)) ≤ B) →
-      120 * B < 2 ^ 63 → {p : ℕ} → p < 120 → {total r w : ℤ} → total ≡ sum p (λ q. f (termAt penalty low high reference q) (v q)) →
-      mag r < 2 ^ 63 → r ≡ f (termRead penalty low high reference p) w → w ≡ v p →
-      Formed (total +ℤ back r) (sum (p + 1) (λ q. f (termAt penalty low high reference q) (v q)))
-  place-added f v {B} size room {p} h {r = r} total ok e d =
+  -- the total of the places before p, and what the code adds for place p: r, which a call gave for the term and the number as it
+  -- read them. B is the most that f gives.
+  pub place-added : (f : Term → ℤ → ℤ) (v : ℕ → ℤ) {B p : ℕ} {total r w : ℤ} →
+      ((q : ℕ) → q < 120 → natAbs (f (termAt penalty low high reference q) (v q)) ≤ B) → 120 * B < 2 ^ 63 → p < 120 →
+      total ≡ termSum f penalty low high reference v p → mag r < 2 ^ 63 → r ≡ f (termRead penalty low high reference p) w → w ≡ v p →
+      Formed (total +ℤ back r) (termSum f penalty low high reference v (p + 1))
+  place-added f v {B} {p} {r = r} size room h total ok e d =
       let most : p + 1 ≤ 120 = omega arith in
       added p _ (λ q l. size q (omega arith)) (omega (arith, mul-le-mul-right B most)) total (called r ok ∙ e ∙ ap₂ f (term-is p h) d)
 

@@ -1,27 +1,21 @@
-use Prim.Native.Nat.{ℕ, _+_, _*_, _-_, _≤_}
+use Prim.Native.Nat.{_+_, _*_, _-_, _≤_}
 use mathlib.Core.Path.{_≡_, sym}
-use mathlib.Core.List.{List}
 use native.Mathlib.Omega.{arith}
-use lib.IntN.{ℤ, _+ℤ_}
+use lib.IntN.{_+ℤ_}
 use mir.Syntax.{w64}
 use mir.Val.{toZ}
 use borrow.Author.Needs.{needs}
 use Rattle.integer.specs.Places.{at}
-use Rattle.integer.specs.Sum.{sum}
 use Rattle.integer.proofs.Sizes.{back, element-is, Formed}
 use Rattle.integer.proofs.Sum.{sum-none}
 use Rattle.problem.specs.Dual.{piece}
-use Rattle.primal.specs.Padded.{termAt}
-use Rattle.primal.proofs.TermSums.{copied, place-added}
+use Rattle.primal.proofs.TermSums.{copied, place-added, termSum}
 use Rattle.dual.proofs.PieceSizes.{size-piece}
 use Rattle.dual.proofs.pieces.pieces.Statement.{statement}
 use Rattle.dual.proofs.pieces.pieces.Tie as tie
 
-abbrev pieceAt : List ℤ → List ℤ → List ℤ → List ℤ → List ℤ → ℕ → ℤ
-pieceAt penalty low high reference s p = piece (termAt penalty low high reference p) (at s p)
-
 abbrev Inv-loop : tie.InvT-loop
-Inv-loop penalty low high reference s horizon count total₀ p₀ total p = (p ≤ count) × (toZ w64 total ≡ sum p (pieceAt penalty low high reference s))
+Inv-loop penalty low high reference s horizon count total₀ p₀ total p = (p ≤ count) × (toZ w64 total ≡ termSum piece penalty low high reference (at s) p)
 
 abbrev μ-loop : tie.MeasureT-loop
 μ-loop penalty low high reference s horizon count total₀ p₀ total p = count - p
@@ -75,7 +69,7 @@ next : (c : tie.After-piece-of Inv-loop μ-loop) →
     let l = turn (c .before) .before .loop in
     let a = turn (c .before) .before .before .args in
     Formed (toZ w64 (l .total) +ℤ back (c .piece-of .result))
-    (sum (l .p + 1) (pieceAt (a .penalty .now) (a .low .now) (a .high .now) (a .reference .now) (a .s .now)))
+    (termSum piece (a .penalty .now) (a .low .now) (a .high .now) (a .reference .now) (at (a .s .now)) (l .p + 1))
 next c =
     let l = turn (c .before) .before .loop in
     let s = turn (c .before) .before .before .args .s .now in

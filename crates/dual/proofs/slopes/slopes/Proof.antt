@@ -6,7 +6,7 @@ use borrow.Author.Needs.{needs}
 use Rattle.integer.specs.Places.{Steps}
 use Rattle.integer.proofs.Places.{stretch-join, steps-none, steps-more}
 use Rattle.dual.proofs.ByPlace.{place-input, place-state}
-use Rattle.dual.proofs.SlopeSizes.{slopeAt}
+use Rattle.dual.proofs.ByPlace.{slopeAt}
 use Rattle.dual.proofs.slopes.slopes.Statement.{statement}
 use Rattle.dual.proofs.slopes.slopes.Tie as tie
 

@@ -1,27 +1,21 @@
-use Prim.Native.Nat.{ℕ, _+_, _*_, _-_, _≤_}
+use Prim.Native.Nat.{_+_, _*_, _-_, _≤_}
 use mathlib.Core.Path.{_≡_, refl, sym, _∙_}
-use mathlib.Core.List.{List}
 use native.Mathlib.Omega.{arith}
-use lib.IntN.{ℤ, pos, _+ℤ_}
+use lib.IntN.{pos, _+ℤ_}
 use mir.Syntax.{w64}
 use mir.Val.{toZ}
 use borrow.Author.Needs.{needs}
-use Rattle.integer.specs.Sum.{sum}
 use Rattle.integer.proofs.Sizes.{back, Formed}
 use Rattle.integer.proofs.Sum.{sum-none}
 use Rattle.problem.specs.Dual.{most, ceiling}
-use Rattle.primal.specs.Padded.{termAt}
 use Rattle.primal.proofs.Places.{total-places}
 use Rattle.primal.proofs.TermSizes.{size-most}
-use Rattle.primal.proofs.TermSums.{copied, place-added}
+use Rattle.primal.proofs.TermSums.{termSum, copied, place-added}
 use Rattle.primal.proofs.cost.ceiling_of.Statement.{statement}
 use Rattle.primal.proofs.cost.ceiling_of.Tie as tie
 
-abbrev mostAt : List ℤ → List ℤ → List ℤ → List ℤ → ℕ → ℤ
-mostAt penalty low high reference p = most (termAt penalty low high reference p)
-
 abbrev Inv-loop : tie.InvT-loop
-Inv-loop penalty low high reference horizon count total₀ p₀ total p = (p ≤ count) × (toZ w64 total ≡ sum p (mostAt penalty low high reference))
+Inv-loop penalty low high reference horizon count total₀ p₀ total p = (p ≤ count) × (toZ w64 total ≡ termSum (λ t _. most t) penalty low high reference (λ _. pos 0) p)
 
 abbrev μ-loop : tie.MeasureT-loop
 μ-loop penalty low high reference horizon count total₀ p₀ total p = count - p
@@ -65,11 +59,12 @@ most-of-requires c κs = copied (turn c .before .before .pre .1) (turn c .before
 next : (c : tie.After-most-of Inv-loop μ-loop) →
     let l = turn (c .before) .before .loop in
     let a = turn (c .before) .before .before .args in
-    Formed (toZ w64 (l .total) +ℤ back (c .most-of .result)) (sum (l .p + 1) (mostAt (a .penalty .now) (a .low .now) (a .high .now) (a .reference .now)))
+    Formed (toZ w64 (l .total) +ℤ back (c .most-of .result))
+    (termSum (λ t _. most t) (a .penalty .now) (a .low .now) (a .high .now) (a .reference .now) (λ _. pos 0) (l .p + 1))
 next c =
     let l = turn (c .before) .before .loop in
     let t = turn (c .before) .before .before .pre .1 in
-    place-added t (λ a _. most a) (λ _. pos 0) (λ p h. size-most (t .each p h)) (omega arith) (omega arith) (l .inv .1)
+    place-added t (λ t _. most t) (λ _. pos 0) (λ p h. size-most (t .each p h)) (omega arith) (omega arith) (l .inv .1)
     (c .most-of .ok) (c .most-of .ensures) refl
 
 add-total : tie.Need-add-total Inv-loop μ-loop

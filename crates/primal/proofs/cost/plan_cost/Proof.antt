@@ -1,28 +1,22 @@
-use Prim.Native.Nat.{ℕ, _+_, _*_, _-_, _≤_}
+use Prim.Native.Nat.{_+_, _*_, _-_, _≤_}
 use mathlib.Core.Path.{_≡_, sym, _∙_}
-use mathlib.Core.List.{List}
 use native.Mathlib.Omega.{arith}
-use lib.IntN.{ℤ, _+ℤ_}
+use lib.IntN.{_+ℤ_}
 use mir.Syntax.{w64}
 use mir.Val.{toZ}
 use borrow.Author.Needs.{needs}
 use Rattle.integer.specs.Places.{at}
-use Rattle.integer.specs.Sum.{sum}
 use Rattle.integer.proofs.Sizes.{back, element-is, Formed}
 use Rattle.integer.proofs.Sum.{sum-none}
 use Rattle.problem.specs.Cost.{cost, planCost}
-use Rattle.primal.specs.Padded.{termAt}
 use Rattle.primal.proofs.Places.{total-places}
 use Rattle.primal.proofs.TermSizes.{near, size-cost}
-use Rattle.primal.proofs.TermSums.{copied, place-added}
+use Rattle.primal.proofs.TermSums.{termSum, copied, place-added}
 use Rattle.primal.proofs.cost.plan_cost.Statement.{statement}
 use Rattle.primal.proofs.cost.plan_cost.Tie as tie
 
-abbrev costAt : List ℤ → List ℤ → List ℤ → List ℤ → List ℤ → ℕ → ℤ
-costAt penalty low high reference v p = cost (termAt penalty low high reference p) (at v p)
-
 abbrev Inv-loop : tie.InvT-loop
-Inv-loop penalty low high reference v horizon count total₀ p₀ total p = (p ≤ count) × (toZ w64 total ≡ sum p (costAt penalty low high reference v))
+Inv-loop penalty low high reference v horizon count total₀ p₀ total p = (p ≤ count) × (toZ w64 total ≡ termSum cost penalty low high reference (at v) p)
 
 abbrev μ-loop : tie.MeasureT-loop
 μ-loop penalty low high reference v horizon count total₀ p₀ total p = count - p
@@ -65,7 +59,7 @@ next : (c : tie.After-cost-of Inv-loop μ-loop) →
     let l = turn (c .before) .before .loop in
     let a = turn (c .before) .before .before .args in
     Formed (toZ w64 (l .total) +ℤ back (c .cost-of .result))
-    (sum (l .p + 1) (costAt (a .penalty .now) (a .low .now) (a .high .now) (a .reference .now) (a .v .now)))
+    (termSum cost (a .penalty .now) (a .low .now) (a .high .now) (a .reference .now) (at (a .v .now)) (l .p + 1))
 unfolding cost
 next c =
     let l = turn (c .before) .before .loop in

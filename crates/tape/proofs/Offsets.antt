@@ -11,6 +11,7 @@ use Rattle.integer.proofs.Tests.{none}
 use Rattle.commands.specs.declared.Entry.{Entry}
 use Rattle.commands.specs.declared.Entry.the-variants.{State, Input, Drift, Column, Start, Rounds}
 use Rattle.commands.specs.Format.{bytesOf, wrongSize, beyond, placeOf}
+use Rattle.commands.specs.Marks.{placeCount}
 use Rattle.commands.proofs.Tests.{Inside, inside}
 use Rattle.tape.specs.declared.Answer.{Answer}
 use Rattle.tape.specs.declared.Answer.the-variants as answer
@@ -22,11 +23,11 @@ use Rattle.tape.specs.declared.reader.Verdict.the-variants.{Going, Ended
 use Rattle.tape.specs.Tape.{with}
 use Rattle.tape.specs.Reading.{marked, next, outcome, readFrom, opened, reading}
 use Rattle.tape.specs.Refusals.{row, figure}
-use Rattle.tape.proofs.Steps.{Small, small-next, next-leads}
+use Rattle.tape.proofs.Steps.{SmallTape, small-next, next-leads}
 
 -- ---- A command's place and its bytes
 
-place-below : (e : Entry) → Inside e → placeOf e < 83
+place-below : (e : Entry) → Inside e → placeOf e < placeCount
 place-below (State i j v) h = omega arith
 place-below (Input i j v) h = omega arith
 place-below (Drift i v) h = omega arith
@@ -62,7 +63,7 @@ one-fewer (false ∷ given) (suc place) h e = ap (λ (count : ℕ). 1 + count) (
 -- ---- How far the commands reach
 
 record Near (q : Reader) : Type 0 where
-  long : length (q .given) ≡ 83
+  long : length (q .given) ≡ placeCount
   reach : q .at + 9 * unmarked (q .given) ≤ 747 + 4 * q .tape .n
 
 abbrev Stays : ℕ → Verdict → Reader → Type 0
@@ -70,7 +71,7 @@ Stays from Going r = (from < r .at) × Near r
 Stays from Ended r = Unit {0}
 Stays from (Refused why) r = figure (row why .carries) ≤ 1000
 
-next-stays : (s : List ℕ) (q : Reader) → Small (q .tape) → Near q → let r = next s q in Stays (q .at) (r .verdict) r
+next-stays : (s : List ℕ) (q : Reader) → SmallTape (q .tape) → Near q → let r = next s q in Stays (q .at) (r .verdict) r
 unfolding wrongSize
 next-stays s q small n =
     next-leads (λ r. Stays (q .at) (r .verdict) r) s q
@@ -87,11 +88,11 @@ next-stays s q small n =
         let o = none (ltb n′ 1) (ltb 6 n′ ∷ ltb m′ 1 ∷ ltb 4 m′ ∷ ltb horizon 1 ∷ ltb 12 horizon ∷ []) w in
         omega (arith, ltb-false 0 (q .tape .n) u, ltb-false n′ 1 (o .0), n .reach)
 
-    entry : (e : Entry) → beyond (q .tape .n) (q .tape .m) e ≡ false → marked (q .given) (placeOf e) ≡ false →
+    entry : (e : Entry) → beyond (q .tape .n) (q .tape .m) (q .tape .horizon) e ≡ false → marked (q .given) (placeOf e) ≡ false →
         Stays (q .at) Going (record { at = q .at + bytesOf e; verdict = Going; tape = with (q .tape) e; given = set (q .given) (placeOf e) true })
     entry e b g =
         let f = few-bytes (q .tape) e in
-        let p = place-below e (inside (q .tape .n) (q .tape .m) e (small .n) (small .m) b) in
+        let p = place-below e (inside (q .tape .n) (q .tape .m) (q .tape .horizon) e small b) in
         let o = one-fewer (q .given) (placeOf e) (omega (arith, n .long)) g in
         (omega (arith, f), record { long = length-set (q .given) (placeOf e) true ∙ n .long; reach = omega (arith, f, o, n .reach) })
 
@@ -103,7 +104,7 @@ Carrying (answer.Refused why) = figure (row why .carries) ≤ 1000
 
 pub carrying : (s : List ℕ) → Carrying (reading s .answer)
 unfolding reading readFrom unmarked
-carrying s = go (length s) opened (omega arith) (record { n = omega arith; m = omega arith }) (record { long = refl; reach = omega arith })
+carrying s = go (length s) opened (omega arith) (record { states = omega arith; inputs = omega arith; steps = omega arith }) (record { long = refl; reach = omega arith })
   where
     told : (v : Verdict) (from : ℕ) (r : Reader) (again : Reading) → Stays from v r → (from < r .at → Near r → Carrying (again .answer)) →
         Carrying (outcome v (r .tape) again .answer)
@@ -111,8 +112,8 @@ carrying s = go (length s) opened (omega arith) (record { n = omega arith; m = o
     told Ended from r again h f = tt
     told (Refused why) from r again h f = h
 
-    go : (left : ℕ) (q : Reader) → length s ≤ q .at + left → Small (q .tape) → Near q → Carrying (readFrom s left q .answer)
-    go zero q l small n = omega (arith, n .reach, small .n)
+    go : (left : ℕ) (q : Reader) → length s ≤ q .at + left → SmallTape (q .tape) → Near q → Carrying (readFrom s left q .answer)
+    go zero q l small n = omega (arith, n .reach, small .states)
     go (suc left) q l small n =
         let r = next s q in
         told (r .verdict) (q .at) r (readFrom s left r) (next-stays s q small n) (λ m k. go left r (omega arith) (small-next s q small) k)

@@ -12,7 +12,8 @@ use Rattle.commands.specs.declared.Command.{Command}
 use Rattle.commands.specs.declared.Command.the-variants.{Cut}
 use Rattle.commands.specs.declared.Entry.{Entry}
 use Rattle.commands.specs.declared.Entry.the-variants.{State, Input, Drift, Column, Start, Rounds}
-use Rattle.commands.specs.Format.{whole, beyond, among, required}
+use Rattle.commands.specs.Format.{whole}
+use Rattle.commands.specs.Format.{beyond, among, required}
 use Rattle.commands.specs.Marks.{columnPlace, startPlace, roundsPlace}
 use Rattle.commands.specs.Room.{Small}
 

@@ -8,7 +8,7 @@ use native.Mathlib.Nat.{pow-succ'}
 use native.Mathlib.Decide.{decLe}
 use lib.Dec.{ltb}
 use lib.ListN.{length, take, drop, getD, length-take, length-drop, List·getD-eq-default}
-use lib.Seq.{drop-cons, take-add, drop-drop, getD-take, getD-drop}
+use lib.Seq.{drop-cons, take-add, take-append-le, drop-append-le, drop-drop, getD-take, getD-drop}
 use lib.IntN.{ℤ, pos, negsuc, negℤ, _-ℤ_, _*ℤ_}
 use mir.Syntax.{w8}
 use mir.Val.{Fits}
@@ -25,6 +25,12 @@ operand-length k s at h = simp (length-take, length-drop) (omega arith)
 
 pub operand-parts : (j k : ℕ) (s : List ℕ) (at : ℕ) → operand (j + k) s at ≡ operand j s at ++ operand k s (at + j)
 operand-parts j k s at = take-add j k (drop at s) ∙ ap (λ (l : List ℕ). operand j s at ++ take k l) (drop-drop j at s)
+
+-- bytes behind it change nothing
+pub operand-front : (k : ℕ) (xs ys : List ℕ) (at : ℕ) → at + k ≤ length xs → operand k (xs ++ ys) at ≡ operand k xs at
+operand-front k xs ys at h =
+    ap (λ (l : List ℕ). take k l) (drop-append-le at xs ys (omega arith))
+    ∙ take-append-le k (drop at xs) ys (simp length-drop (omega arith))
 
 -- ---- Its value
 

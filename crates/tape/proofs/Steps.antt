@@ -22,7 +22,7 @@ use Rattle.tape.specs.declared.reader.Verdict.the-variants.{Going, Ended
 use Rattle.tape.specs.declared.refusal.Refusal.{Refusal}
 use Rattle.tape.specs.Refusals.{row, figure}
 use Rattle.tape.specs.Tape.{withSize, with}
-use Rattle.tape.specs.Reading.{refuse, refuseWhen, marked, sized, absent, obeySize, obeyEntry, obeyEnd, obey, next, outcome, readFrom}
+use Rattle.tape.specs.Reading.{refuse, refuseWhen, marked, sized, absent, obeySize, obeyEntry, obeyEnd, obey, next, outcome, readFrom, opened}
 
 -- ---- What the next command leads to: to a reader of which P holds, if P holds where the command is refused and where it is obeyed
 
@@ -61,6 +61,9 @@ module _ (P : Reader → Type 0) (s : List ℕ) (q : Reader) (k : Leads P s q) w
 
 abbrev pub SmallTape : Tape → Type 0
 SmallTape t = Small (t .n) (t .m) (t .horizon)
+
+pub small-opened : SmallTape (opened .tape)
+small-opened = record { states = omega arith; inputs = omega arith; steps = omega arith }
 
 small-size : (t : Tape) (n m horizon : ℕ) → wrongSize n m horizon ≡ false → SmallTape (withSize t n m horizon)
 unfolding wrongSize

@@ -4,7 +4,7 @@ use native.Mathlib.Omega.{arith}
 use borrow.Author.Needs.{needs}
 use Rattle.tape.specs.declared.reader.Verdict.{Verdict}
 use Rattle.tape.specs.Reading.{readFrom, reading, outcome}
-use Rattle.tape.proofs.Steps.{SmallTape, small-next, read-step}
+use Rattle.tape.proofs.Steps.{SmallTape, small-opened, small-next, read-step}
 use Rattle.tape.proofs.reader.read.Statement.{statement}
 use Rattle.tape.proofs.reader.read.Tie as tie
 
@@ -25,7 +25,7 @@ open-requires c κs = search needs
 
 loop-holds : tie.Need-loop-holds Inv-loop μ-loop
 unfolding reading
-loop-holds c = rw (c .«open» .ensures) (record { states = omega arith; inputs = omega arith; steps = omega arith }, refl)
+loop-holds c = rw (c .«open» .ensures) (small-opened, refl)
 
 step-requires : tie.Need-step-requires Inv-loop μ-loop
 step-requires c κs = search needs

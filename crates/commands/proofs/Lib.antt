@@ -1,2 +1,3 @@
 -- Laws about commands.
 pub mod Tests
+pub mod Extent

@@ -1,18 +1,21 @@
--- Laws about commands: one that is cut or whole, and the indexes of an entry that is not beyond the size.
+-- Laws about commands: one that is cut or whole, the indexes of an entry that is not beyond the size, and places that FF asks for.
 use Prim.Native.Nat.{ℕ, _+_, _-_, _<_, _≤_}
 use mathlib.Core.Path.{_≡_}
-use mathlib.Core.Bool.{false}
+use mathlib.Core.Bool.{true, false, _||_, or-true}
 use mathlib.Core.List.{List, [], _∷_}
 use native.Mathlib.Omega.{arith}
 use lib.Dec.{leb}
 use lib.ListN.{length}
-use borrow.Author.Tests.{le-leb, lt-leb, leb-false}
+use borrow.Author.Tests.{lt-ltb, le-leb, lt-leb, leb-false}
 use Rattle.integer.proofs.Tests.{none}
 use Rattle.commands.specs.declared.Command.{Command}
 use Rattle.commands.specs.declared.Command.the-variants.{Cut}
 use Rattle.commands.specs.declared.Entry.{Entry}
 use Rattle.commands.specs.declared.Entry.the-variants.{State, Input, Drift, Column, Start, Rounds}
-use Rattle.commands.specs.Format.{whole, beyond}
+use Rattle.commands.specs.Format.{whole}
+use Rattle.commands.specs.Format.{beyond, among, required}
+use Rattle.commands.specs.Marks.{columnPlace, startPlace, roundsPlace}
+use Rattle.commands.specs.Room.{Small}
 
 -- ---- A command of k operand bytes
 
@@ -32,11 +35,22 @@ Inside (Column c lo hi r h) = c < 10
 Inside (Start i v) = i < 6
 Inside (Rounds g rounds t) = Unit {0}
 
-pub inside : (n m : ℕ) (e : Entry) → n ≤ 6 → m ≤ 4 → beyond n m e ≡ false → Inside e
+pub inside : (n m horizon : ℕ) (e : Entry) → Small n m horizon → beyond n m horizon e ≡ false → Inside e
 unfolding beyond
-inside n m (State i j v) h l e = let t = none (leb n i) (leb n j ∷ []) e in omega (arith, leb-false)
-inside n m (Input i j v) h l e = let t = none (leb n i) (leb m j ∷ []) e in omega (arith, leb-false)
-inside n m (Drift i v) h l e = omega (arith, leb-false n i e)
-inside n m (Column c lo hi r w) h l e = omega (arith, leb-false (n + m) c e)
-inside n m (Start i v) h l e = omega (arith, leb-false n i e)
-inside n m (Rounds g rounds t) h l e = tt
+inside n m horizon (State i j v) h e = let t = none (leb n i) (leb n j ∷ []) e in omega (arith, leb-false)
+inside n m horizon (Input i j v) h e = let t = none (leb n i) (leb m j ∷ []) e in omega (arith, leb-false)
+inside n m horizon (Drift i v) h e = omega (arith, leb-false n i e)
+inside n m horizon (Column c lo hi r w) h e = omega (arith, leb-false (n + m) c e)
+inside n m horizon (Start i v) h e = omega (arith, leb-false n i e)
+inside n m horizon (Rounds g rounds t) h e = tt
+
+-- ---- What FF asks for
+
+pub required-column : (n m horizon c : ℕ) → c < n + m → required n m horizon (columnPlace + c) ≡ true
+unfolding required among
+required-column n m horizon c h =
+    rw (le-leb columnPlace (columnPlace + c) (omega arith), lt-ltb (columnPlace + c - columnPlace) (n + m) (omega arith))
+
+pub required-rounds : (n m horizon : ℕ) → required n m horizon roundsPlace ≡ true
+unfolding required among
+required-rounds n m horizon = or-true (among columnPlace (n + m) roundsPlace || among startPlace n roundsPlace)

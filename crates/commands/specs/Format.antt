@@ -1,6 +1,6 @@
 -- Document 01, "Tape commands": its table, line by line.
-use Prim.Native.Nat.{ℕ, _+_, _*_}
-use mathlib.Core.Bool.{Bool, false, cond, _||_}
+use Prim.Native.Nat.{ℕ, _+_, _-_, _*_}
+use mathlib.Core.Bool.{Bool, false, cond, _&&_, _||_}
 use mathlib.Core.List.{List}
 use lib.Dec.{eqb, ltb, leb}
 use lib.ListN.{length, getD}
@@ -13,6 +13,7 @@ use Rattle.commands.specs.declared.Command.the-variants.{Unknown, Cut, S
 use Rattle.commands.specs.declared.Entry.{Entry}
 use Rattle.commands.specs.declared.Entry.the-variants.{State, Input, Drift, Column, Start, Rounds}
 use Rattle.commands.specs.Ranges.{mostEntry, mostDrift, mostNumber, mostWeight, mostRounds, exceeding}
+use Rattle.commands.specs.Marks.{statePlace, inputPlace, driftPlace, columnPlace, startPlace, roundsPlace}
 
 -- ---- Byte and operands. A command that has not all of its operands is cut
 
@@ -85,13 +86,13 @@ unfoldable pub wrongSize : ℕ → ℕ → ℕ → Bool
 wrongSize n m horizon = ltb n 1 || ltb 6 n || ltb m 1 || ltb 4 m || ltb horizon 1 || ltb 12 horizon
 
 -- an index outside the size
-unfoldable pub beyond : ℕ → ℕ → Entry → Bool
-beyond n m (State i j v) = leb n i || leb n j
-beyond n m (Input i j v) = leb n i || leb m j
-beyond n m (Drift i v) = leb n i
-beyond n m (Column c lo hi r h) = leb (n + m) c
-beyond n m (Start i v) = leb n i
-beyond n m (Rounds g rounds t) = false
+unfoldable pub beyond : ℕ → ℕ → ℕ → Entry → Bool
+beyond n m horizon (State i j v) = leb n i || leb n j
+beyond n m horizon (Input i j v) = leb n i || leb m j
+beyond n m horizon (Drift i v) = leb n i
+beyond n m horizon (Column c lo hi r h) = leb (n + m) c
+beyond n m horizon (Start i v) = leb n i
+beyond n m horizon (Rounds g rounds t) = false
 
 -- lo, hi, r -20,000 to 20,000, lo ≤ hi, h 1 to 255
 unfoldable pub wrongColumn : ℤ → ℤ → ℤ → ℤ → Bool
@@ -110,11 +111,19 @@ wrong (Rounds g rounds t) = ltZ g (pos 1) || ltb rounds 1 || ltb mostRounds roun
 
 -- ---- What is given
 
--- the entry's place among all places: those of A, of B, of w, the columns, x(0), and command 50
+-- the place whose mark the entry sets
 abbrev pub placeOf : Entry → ℕ
-placeOf (State i j v) = 6 * i + j
-placeOf (Input i j v) = 36 + (4 * i + j)
-placeOf (Drift i v) = 60 + i
-placeOf (Column c lo hi r h) = 66 + c
-placeOf (Start i v) = 76 + i
-placeOf (Rounds g rounds t) = 82
+placeOf (State i j v) = statePlace + (6 * i + j)
+placeOf (Input i j v) = inputPlace + (4 * i + j)
+placeOf (Drift i v) = driftPlace + i
+placeOf (Column c lo hi r h) = columnPlace + c
+placeOf (Start i v) = startPlace + i
+placeOf (Rounds g rounds t) = roundsPlace
+
+-- one of the count places from p on
+unfoldable pub among : ℕ → ℕ → ℕ → Bool
+among p count place = leb p place && ltb (place - p) count
+
+-- what FF asks for: every column, every start value and command 50
+unfoldable pub required : ℕ → ℕ → ℕ → ℕ → Bool
+required n m horizon place = among columnPlace (n + m) place || among startPlace n place || among roundsPlace 1 place

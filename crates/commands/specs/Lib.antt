@@ -1,4 +1,5 @@
 -- The definitions that promises cite.
 pub mod Ranges
+pub mod Marks
 pub mod Format
 pub mod Room

@@ -1,12 +1,20 @@
 // The commands of a tape: their bytes, their operands and the tests of document 01's table.
+pub mod mark;
 pub mod range;
 
-ghost use Prim.Native.Nat.{_+_, _<_, _≤_};
+ghost use Prim.Native.Nat.{_+_, _<_};
 ghost use mathlib.Core.Path.{_≡_};
 ghost use mathlib.Core.Bool.{false};
 ghost use lib.ListN.{length};
-ghost use Rattle.commands.specs.Format.{sizeCommand, stateCommand, inputCommand, driftCommand, columnCommand, startCommand, roundsCommand, decoded, wrongSize, wrongColumn, beyond, wrong, placeOf, bytesOf};
-ghost use Rattle.commands.specs.Room.{Room};
+ghost use Rattle.commands.specs.Format.{sizeCommand, stateCommand, inputCommand, driftCommand, columnCommand, startCommand, roundsCommand, decoded, wrongSize, wrongColumn, beyond, wrong, placeOf, among, required, bytesOf};
+ghost use Rattle.commands.specs.Marks.{placeCount};
+ghost use Rattle.commands.specs.Room.{Room, Small};
+use crate::mark::COLUMN_PLACE;
+use crate::mark::DRIFT_PLACE;
+use crate::mark::INPUT_PLACE;
+use crate::mark::ROUNDS_PLACE;
+use crate::mark::START_PLACE;
+use crate::mark::STATE_PLACE;
 use crate::range::LEAST_DRIFT;
 use crate::range::LEAST_ENTRY;
 use crate::range::LEAST_NUMBER;
@@ -156,9 +164,9 @@ fn is_wrong_column(low: i64, high: i64, reference: i64, weight: i64) -> bool
 }
 
 // Test 4: an index outside the size.
-pub fn is_beyond(entry: Entry, n: usize, m: usize) -> bool
-    requires { ⌜ n + m ≤ 10 ⌝ }
-    ensures { λ r. ⌜ r ≡ beyond n m entry ⌝ }
+pub fn is_beyond(entry: Entry, n: usize, m: usize, horizon: usize) -> bool
+    requires { ⌜ Small n m horizon ⌝ }
+    ensures { λ r. ⌜ r ≡ beyond n m horizon entry ⌝ }
 {
     match entry {
         Entry::State(i, j, _) => n <= i || n <= j,
@@ -190,18 +198,35 @@ pub fn is_wrong(entry: Entry) -> bool
 }
 
 // Test 6 looks at the mark of the entry's place.
-pub fn place_of(entry: Entry, n: usize, m: usize) -> usize
-    requires { ⌜ (n ≤ 6) × (m ≤ 4) × (beyond n m entry ≡ false) ⌝ }
-    ensures { λ r. ⌜ (r ≡ placeOf entry) × (r < 83) ⌝ }
+pub fn place_of(entry: Entry, n: usize, m: usize, horizon: usize) -> usize
+    requires { ⌜ Small n m horizon × (beyond n m horizon entry ≡ false) ⌝ }
+    ensures { λ r. ⌜ (r ≡ placeOf entry) × (r < placeCount) ⌝ }
 {
     match entry {
-        Entry::State(i, j, _) => 6 * i + j,
-        Entry::Input(i, j, _) => 36 + (4 * i + j),
-        Entry::Drift(i, _) => 60 + i,
-        Entry::Column(c, _, _, _, _) => 66 + c,
-        Entry::Start(i, _) => 76 + i,
-        Entry::Rounds(_, _, _) => 82,
+        Entry::State(i, j, _) => STATE_PLACE + (6 * i + j),
+        Entry::Input(i, j, _) => INPUT_PLACE + (4 * i + j),
+        Entry::Drift(i, _) => DRIFT_PLACE + i,
+        Entry::Column(c, _, _, _, _) => COLUMN_PLACE + c,
+        Entry::Start(i, _) => START_PLACE + i,
+        Entry::Rounds(_, _, _) => ROUNDS_PLACE,
     }
+}
+
+// Whether the place is one of the count places from p on.
+fn is_among(place: usize, p: usize, count: usize) -> bool
+    ensures { λ r. ⌜ r ≡ among p count place ⌝ }
+{
+    p <= place && place - p < count
+}
+
+// Test 7 asks for the marks of these places.
+pub fn is_required(place: usize, n: usize, m: usize, horizon: usize) -> bool
+    requires { ⌜ Small n m horizon ⌝ }
+    ensures { λ r. ⌜ r ≡ required n m horizon place ⌝ }
+{
+    is_among(place, COLUMN_PLACE, n + m)
+        || is_among(place, START_PLACE, n)
+        || is_among(place, ROUNDS_PLACE, 1)
 }
 
 // How many bytes the command takes.

@@ -9,4 +9,5 @@ pub mod Square
 pub mod Limited
 pub mod Operand
 pub mod Places
+pub mod Naturals
 pub mod Tests

@@ -1,4 +1,4 @@
--- Operands of any width: where they lie, what range they have, and the value of a longer one from its parts.
+-- Operands of any width: where they lie, what range they have, the value of a longer one from its parts, and what functions return of them.
 use Prim.Native.Nat.{ℕ, suc, _+_, _*_, _^_, _<_, _≤_}
 use mathlib.Core.Path.{_≡_, refl, _∙_, ap, subst}
 use mathlib.Core.Bool.{Bool, true, false, cond}
@@ -8,8 +8,8 @@ use native.Mathlib.Nat.{pow-succ'}
 use native.Mathlib.Decide.{decLe}
 use lib.Dec.{ltb}
 use lib.ListN.{length, take, drop, getD, length-take, length-drop, List·getD-eq-default}
-use lib.Seq.{drop-cons, take-add, drop-drop, getD-take, getD-drop}
-use lib.IntN.{pos, negℤ, _-ℤ_, _*ℤ_}
+use lib.Seq.{drop-cons, take-add, take-append-le, drop-append-le, drop-drop, getD-take, getD-drop}
+use lib.IntN.{ℤ, pos, negsuc, negℤ, _-ℤ_, _*ℤ_}
 use mir.Syntax.{w8}
 use mir.Val.{Fits}
 use borrow.Author.Tests.{ltb-true, ltb-false}
@@ -25,6 +25,12 @@ operand-length k s at h = simp (length-take, length-drop) (omega arith)
 
 pub operand-parts : (j k : ℕ) (s : List ℕ) (at : ℕ) → operand (j + k) s at ≡ operand j s at ++ operand k s (at + j)
 operand-parts j k s at = take-add j k (drop at s) ∙ ap (λ (l : List ℕ). operand j s at ++ take k l) (drop-drop j at s)
+
+-- bytes behind it change nothing
+pub operand-front : (k : ℕ) (xs ys : List ℕ) (at : ℕ) → at + k ≤ length xs → operand k (xs ++ ys) at ≡ operand k xs at
+operand-front k xs ys at h =
+    ap (λ (l : List ℕ). take k l) (drop-append-le at xs ys (omega arith))
+    ∙ take-append-le k (drop at xs) ys (simp length-drop (omega arith))
 
 -- ---- Its value
 
@@ -94,3 +100,22 @@ signed-range k s at b h = rw (signed-operand k s at h) (go (ltb (2 * v) (256 ^ k
           omega (arith, order, negated (pos (256 ^ k)), minus (pos v) (pos (256 ^ k)), times (pos 2) (pos v -ℤ pos (256 ^ k))),
           omega (arith, order, minus (pos v) (pos (256 ^ k)), times (pos 2) (pos v -ℤ pos (256 ^ k))),
         )
+
+-- ---- What the functions return, for every width
+
+-- an operand from its two parts
+pub unsigned-at : (j k : ℕ) (s : List ℕ) (at : ℕ) {low high : ℕ} → Bytes s → at + (j + k) ≤ length s →
+    low ≡ unsigned (operand j s at) → high ≡ unsigned (operand k s (at + j)) →
+    (low + 256 ^ j * high ≡ unsigned (operand (j + k) s at)) × (low + 256 ^ j * high < 256 ^ (j + k))
+unsigned-at j k s at b h l u =
+    rw (l, u, ← unsigned-parts j k s at (omega arith)) (refl, unsigned-range (j + k) s at b h)
+
+-- v is the operand unsigned, and z what two's complement makes of v
+pub signed-at : (k most : ℕ) (s : List ℕ) (at : ℕ) {v : ℕ} {z : ℤ} → 2 * (1 + most) ≡ 256 ^ k → Bytes s → at + k ≤ length s →
+    v ≡ unsigned (operand k s at) → z ≡ cond (ltb (2 * v) (256 ^ k)) (pos v) (pos v -ℤ pos (256 ^ k)) →
+    (z ≡ signed (operand k s at)) × (negsuc most ≼ z) × (z ≼ pos most)
+signed-at k most s at m b h e f =
+    let w = signed (operand k s at) in
+    let r = signed-range k s at b h in
+    rw (f, e, ← signed-operand k s at h)
+    (refl, omega (arith, order, times (pos 2) w, negated (pos (256 ^ k))), omega (arith, order, times (pos 2) w))

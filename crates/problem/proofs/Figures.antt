@@ -8,10 +8,10 @@ use lib.IntN.{ℤ, pos, negsuc}
 use Rattle.integer.specs.Operand.{unsigned, signed}
 use Rattle.integer.specs.Quotient.{_÷_}
 use Rattle.integer.specs.Sum.{sum}
-use Rattle.integer.specs.Tests.{outside}
-use Rattle.commands.specs.Format.{sizeCommand, stateCommand, inputCommand, driftCommand, columnCommand, startCommand, roundsCommand, decoded, wrongSize, beyond, wrongColumn, wrong}
+use Rattle.integer.specs.Tests.{outside, any}
+use Rattle.commands.specs.Format.{sizeCommand, stateCommand, inputCommand, driftCommand, columnCommand, startCommand, roundsCommand, decoded, wrongSize, beyond, wrongColumn, wrong, among, required}
 use Rattle.tape.specs.declared.Tape.{Tape}
-use Rattle.tape.specs.Reading.{obeySize, obeyEntry, lacks, absent, obeyEnd, obey, next, readFrom, reading}
+use Rattle.tape.specs.Reading.{obeySize, obeyEntry, absent, obeyEnd, obey, next, readFrom, reading}
 use Rattle.problem.specs.Model.{problemOf, planOf, multipliersOf, stateAt, modelSum, rounded, sumAt}
 use Rattle.problem.specs.Cost.{total, cost, planCost, costOf}
 use Rattle.problem.specs.Dual.{inputSlope, adjoint, carried, stateSlope, conjugate, tilt, piece, pieces, constant, sizes, floor, floorOf, gapOf, larger, most, ceiling, shows}
@@ -69,5 +69,5 @@ table =
     ∷ []
 
 pub figures : map (λ f. f .0) table ≡ map (λ f. f .1) table
-unfolding unsigned signed _÷_ sum sizeCommand stateCommand inputCommand driftCommand columnCommand startCommand roundsCommand decoded wrongSize beyond outside wrongColumn wrong obeySize obeyEntry lacks absent obeyEnd obey next readFrom reading stateAt modelSum rounded total cost planCost inputSlope adjoint carried stateSlope conjugate tilt piece pieces constant sizes floor larger most ceiling
+unfolding unsigned signed _÷_ sum sizeCommand stateCommand inputCommand driftCommand columnCommand startCommand roundsCommand decoded wrongSize beyond outside any wrongColumn wrong among required obeySize obeyEntry absent obeyEnd obey next readFrom reading stateAt modelSum rounded total cost planCost inputSlope adjoint carried stateSlope conjugate tilt piece pieces constant sizes floor larger most ceiling
 figures = refl

@@ -2,7 +2,7 @@
 use Prim.Native.Nat.{ℕ, zero, suc, _+_, _*_, _^_, _<_, _≤_}
 use mathlib.Core.Path.{_≡_, refl, sym, _∙_, subst}
 use mathlib.Core.Logic.{_⊎_, inl, inr, ⊎-elim}
-use mathlib.Core.Bool.{Bool, true, false, not, cond, true≢false, false≢true}
+use mathlib.Core.Bool.{Bool, true, false, not, cond, _&&_, true≢false, false≢true}
 use mathlib.Core.List.{List, [], _∷_}
 use native.Mathlib.Omega.{arith}
 use native.Mathlib.Decide.{ℕ-discrete}
@@ -18,14 +18,16 @@ use Rattle.integer.specs.Tests.{outside}
 use Rattle.integer.proofs.Order.{order}
 use Rattle.integer.proofs.Sizes.{size-parts}
 use Rattle.integer.proofs.Operand.{Bytes, unsigned-range}
-use Rattle.integer.proofs.Places.{lt-or-le, zeros}
-use Rattle.integer.proofs.Tests.{by-test, none, in-range, in-size}
+use Rattle.integer.proofs.Places.{zeros}
+use Rattle.integer.proofs.Tests.{by-test, none, in-range, in-size, any-none}
 use Rattle.commands.specs.declared.Command.{Command}
 use Rattle.commands.specs.declared.Command.the-variants as command
 use Rattle.commands.specs.declared.Entry.{Entry}
 use Rattle.commands.specs.declared.Entry.the-variants.{State, Input, Drift, Column, Start, Rounds}
 use Rattle.commands.specs.Format.{whole, decoded, sizeCommand, stateCommand, inputCommand, driftCommand, columnCommand, startCommand, roundsCommand}
-use Rattle.commands.specs.Format.{wrongSize, beyond, wrongColumn, wrong, placeOf}
+use Rattle.commands.specs.Format.{wrongSize, beyond, wrongColumn, wrong, placeOf, required}
+use Rattle.commands.specs.Marks.{statePlace, inputPlace, driftPlace, columnPlace, startPlace, roundsPlace, placeCount}
+use Rattle.commands.proofs.Tests.{required-column, required-rounds}
 use Rattle.tape.specs.declared.Answer.the-variants as answer
 use Rattle.tape.specs.declared.Reading.{Reading}
 use Rattle.tape.specs.declared.Tape.{Tape}
@@ -36,7 +38,7 @@ use Rattle.tape.specs.declared.refusal.Refusal.{Refusal}
 use Rattle.tape.specs.declared.refusal.Refusal.the-variants.{Cut}
 use Rattle.tape.specs.Tape.{blank, withSize, with}
 use Rattle.tape.specs.Legal.{Legal}
-use Rattle.tape.specs.Reading.{marked, sized, lacks, absent, next, refusedTape, outcome, readFrom, opened, reading}
+use Rattle.tape.specs.Reading.{marked, sized, absent, next, refusedTape, outcome, readFrom, opened, reading}
 use Rattle.tape.proofs.Steps.{next-leads}
 
 -- ---- Command 50: no test limits `gain` from above, nor `wanted`; the widths of their operands do
@@ -127,8 +129,8 @@ record Columns (w : ℕ) (lo hi r h : List ℤ) : Type 0 where
 
 -- what the marks of the columns and of command 50 say
 record Marks (w : ℕ) (h : List ℤ) (gain : ℤ) (rounds : ℕ) (wanted : ℤ) (given : List Bool) : Type 0 where
-  weighed : (p : ℕ) → p < w → marked given (66 + p) ≡ true → pos 1 ≼ at h p
-  timed : marked given 82 ≡ true → Timed gain rounds wanted
+  weighed : (p : ℕ) → p < w → marked given (columnPlace + p) ≡ true → pos 1 ≼ at h p
+  timed : marked given roundsPlace ≡ true → Timed gain rounds wanted
 
 -- sizes, A, B, w, x(0), columns, marks
 data Good (t : Tape) (given : List Bool) : Type 0 where
@@ -169,21 +171,21 @@ earlier : (g : List Bool) (k p : ℕ) → (p ≡ k → ⊥) → marked (set g k 
 earlier g k p n e = sym (getD-set-other g k p true false n) ∙ e
 
 module _ {w : ℕ} {h : List ℤ} {gain : ℤ} {rounds : ℕ} {wanted : ℤ} {g : List Bool} (m : Marks w h gain rounds wanted g) where
-  marks-other : (k : ℕ) → ((p : ℕ) → p < w → 66 + p ≡ k → ⊥) × (82 ≡ k → ⊥) → Marks w h gain rounds wanted (set g k true)
+  marks-other : (k : ℕ) → ((p : ℕ) → p < w → columnPlace + p ≡ k → ⊥) × (roundsPlace ≡ k → ⊥) → Marks w h gain rounds wanted (set g k true)
   marks-other k n = record {
-    weighed = λ p l e. m .weighed p l (earlier g k (66 + p) (n .0 p l) e);
-    timed = λ e. m .timed (earlier g k 82 (n .1) e);
+    weighed = λ p l e. m .weighed p l (earlier g k (columnPlace + p) (n .0 p l) e);
+    timed = λ e. m .timed (earlier g k roundsPlace (n .1) e);
   }
 
-  marks-column : (c : ℕ) (x : ℤ) → c < 10 → c < length h → pos 1 ≼ x → Marks w (set h c x) gain rounds wanted (set g (66 + c) true)
+  marks-column : (c : ℕ) (x : ℤ) → c < 10 → c < length h → pos 1 ≼ x → Marks w (set h c x) gain rounds wanted (set g (columnPlace + c) true)
   marks-column c x n l y = record {
-    weighed = λ p b. at-stored (λ p z. marked (set g (66 + c) true) (66 + p) ≡ true → pos 1 ≼ z) h c p x l (λ _. y)
-        (λ d e. m .weighed p b (earlier g (66 + c) (66 + p) (λ q. d (omega arith)) e));
-    timed = λ e. m .timed (earlier g (66 + c) 82 (λ q. omega arith) e);
+    weighed = λ p b. at-stored (λ p z. marked (set g (columnPlace + c) true) (columnPlace + p) ≡ true → pos 1 ≼ z) h c p x l (λ _. y)
+        (λ d e. m .weighed p b (earlier g (columnPlace + c) (columnPlace + p) (λ q. d (omega arith)) e));
+    timed = λ e. m .timed (earlier g (columnPlace + c) roundsPlace (λ q. omega arith) e);
   }
 
-  marks-rounds : {u v : ℤ} {r : ℕ} → w ≤ 10 → Timed u r v → Marks w h u r v (set g 82 true)
-  marks-rounds n f = record { weighed = λ p l e. m .weighed p l (earlier g 82 (66 + p) (λ q. omega arith) e); timed = λ _. f }
+  marks-rounds : {u v : ℤ} {r : ℕ} → w ≤ 10 → Timed u r v → Marks w h u r v (set g roundsPlace true)
+  marks-rounds n f = record { weighed = λ p l e. m .weighed p l (earlier g roundsPlace (columnPlace + p) (λ q. omega arith) e); timed = λ _. f }
 
 columns-stored : {w : ℕ} {low high reference weight : List ℤ} (c : ℕ) {lo hi r h : ℤ} → c < w → w ≤ 10 → RightColumn lo hi r h →
     Columns w low high reference weight → Columns w (set low c lo) (set high c hi) (set reference c r) (set weight c h)
@@ -199,35 +201,35 @@ columns-stored {low = low} {high = high} c {lo} {hi} {r} {h} l n x k =
           (rw (getD-set-same high c hi (pos 0) (room .1)) (x .ordered)) (λ d. rw (getD-set-other high c p hi (pos 0) d) (k .ordered p));
     }
 
-entry-kept : {t : Tape} {g : List Bool} (e : Entry) → Ranged (command.Give e) → beyond (t .n) (t .m) e ≡ false → wrong e ≡ false →
+entry-kept : {t : Tape} {g : List Bool} (e : Entry) → Ranged (command.Give e) → beyond (t .n) (t .m) (t .horizon) e ≡ false → wrong e ≡ false →
     Good t g → Good (with t e) (set g (placeOf e) true)
 unfolding beyond wrong
 entry-kept {t} (State i j v) _ u r (good z a b w x c k) =
     let o = none (leb (t .n) i) (leb (t .n) j ∷ []) u in
     let h : (i < t .n) × (j < t .n) = omega (arith, leb-false) in
     let a′ = stored (6 * i + j) v a (omega arith, λ n. n i j h refl) (in-size 16384 v r) in
-    good z a′ b w x c (marks-other k (6 * i + j) (omega arith))
+    good z a′ b w x c (marks-other k (statePlace + (6 * i + j)) (omega arith))
 entry-kept {t} (Input i j v) _ u r (good z a b w x c k) =
     let o = none (leb (t .n) i) (leb (t .m) j ∷ []) u in
     let h : (i < t .n) × (j < t .m) = omega (arith, leb-false) in
     let b′ = stored (4 * i + j) v b (omega arith, λ n. n i j h refl) (in-size 16384 v r) in
-    good z a b′ w x c (marks-other k (36 + (4 * i + j)) (omega arith))
+    good z a b′ w x c (marks-other k (inputPlace + (4 * i + j)) (omega arith))
 entry-kept {t} (Drift i v) _ u r (good z a b w x c k) =
     let h = leb-false (t .n) i u in
-    good z a b (stored i v w (omega arith) (in-size 16777216 v r)) x c (marks-other k (60 + i) (omega arith))
+    good z a b (stored i v w (omega arith) (in-size 16777216 v r)) x c (marks-other k (driftPlace + i) (omega arith))
 entry-kept {t} (Column p lo hi f h) _ u r (good z a b w x c k) =
     let l = leb-false (t .n + t .m) p u in
     let y = right-column lo hi f h r in
     good z a b w x (columns-stored p l (omega arith) y c) (marks-column k p h (omega arith) (omega arith) (y .weight .0))
 entry-kept {t} (Start i v) _ u r (good z a b w x c k) =
     let h = leb-false (t .n) i u in
-    good z a b w (stored i v x (omega arith) (in-size 20000 v r)) c (marks-other k (76 + i) (omega arith))
+    good z a b w (stored i v x (omega arith) (in-size 20000 v r)) c (marks-other k (startPlace + i) (omega arith))
 entry-kept (Rounds _ _ _) f _ r (good z a b w x c k) = good z a b w x c (marks-rounds k (omega arith) (timed f r))
 
 -- ---- Command 10: until it comes nothing is given
 
 abbrev Kept : Tape → List Bool → Type 0
-Kept t g = ((t ≡ blank) × (g ≡ replicate 83 false)) ⊎ Good t g
+Kept t g = ((t ≡ blank) × (g ≡ replicate placeCount false)) ⊎ Good t g
 
 size-kept : (n m horizon : ℕ) {t : Tape} {g : List Bool} → sized t ≡ false → wrongSize n m horizon ≡ false → Kept t g →
     Good (withSize t n m horizon) g
@@ -239,7 +241,7 @@ size-kept n m horizon u w (inl k) =
     (good (omega (arith, ltb-false)) table-none table-none table-none table-none
     (record { low = table-none; high = table-none; reference = table-none; weight = table-none; ordered = omega (arith, order) })
     (record {
-      weighed = λ p h e. absurd (true≢false (sym e ∙ getD-replicate 83 (66 + p) false false (omega arith)));
+      weighed = λ p h e. absurd (true≢false (sym e ∙ getD-replicate placeCount (columnPlace + p) false false (omega arith)));
       timed = λ e. absurd (false≢true e);
     }))
 size-kept n m horizon u w (inr (good z _ _ _ _ _ _)) = let e : ⊥ = omega (arith, ltb-false) in absurd e
@@ -250,19 +252,16 @@ once-sized u (inr k) = k
 
 -- ---- FF: every mark it asks for is there
 
-all-marked : (g : List Bool) (p count i : ℕ) → lacks g p count ≡ false → i < count → marked g (p + i) ≡ true
-unfolding lacks
-all-marked g p zero i e h = let z : ⊥ = omega arith in absurd z
-all-marked g p (suc count) i e h =
-    let o = none (lacks g p count) (not (marked g (p + count)) ∷ []) e in
-    ⊎-elim (λ l. all-marked g p count i (o .0) l) (λ l. let x : i ≡ count = omega arith in rw x (not-false (marked g (p + count)) (o .1 .0)))
-    (lt-or-le i count)
-
-ended-legal : {t : Tape} {g : List Bool} → absent (t .n) (t .m) g ≡ false → Good t g → Legal t
+-- a required place that is not absent has its mark
+present : (n m horizon : ℕ) (g : List Bool) (p : ℕ) → absent n m horizon g ≡ false → p < placeCount → required n m horizon p ≡ true → marked g p ≡ true
 unfolding absent
+present n m horizon g p e h r =
+    not-false (marked g p) (rw r at (any-none placeCount p (λ q. required n m horizon q && not (marked g q)) h e))
+
+ended-legal : {t : Tape} {g : List Bool} → absent (t .n) (t .m) (t .horizon) g ≡ false → Good t g → Legal t
 ended-legal {t} {g} e (good z a b w x c k) =
-    let o = none (lacks g 66 (t .n + t .m)) (lacks g 76 (t .n) ∷ lacks g 82 1 ∷ []) e in
-    let f = k .timed (all-marked g 82 1 0 (o .1 .1 .0) (omega arith)) in
+    let there = present (t .n) (t .m) (t .horizon) g in
+    let f = k .timed (there roundsPlace e (omega arith) (required-rounds (t .n) (t .m) (t .horizon))) in
     record {
       states = z .states;
       inputs = z .inputs;
@@ -276,7 +275,7 @@ ended-legal {t} {g} e (good z a b w x c k) =
       reference = c .reference .bounded;
       weight = c .weight .bounded;
       ordered = c .ordered;
-      weighed = λ p l. k .weighed p l (all-marked g 66 (t .n + t .m) p (o .0) l);
+      weighed = λ p l. k .weighed p l (there (columnPlace + p) e (omega arith) (required-column (t .n) (t .m) (t .horizon) p l));
       gain = f .gain;
       rounds = f .rounds;
       wanted = f .wanted;

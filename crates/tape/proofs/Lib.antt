@@ -3,3 +3,4 @@ pub mod Steps
 pub mod Facts
 pub mod Enough
 pub mod Offsets
+pub mod Deciding

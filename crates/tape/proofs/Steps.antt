@@ -1,21 +1,20 @@
--- Laws about the reader's steps: places without a mark, what the next command leads to, sizes that stay in range, and reading on.
+-- Laws about the reader's steps: what the next command leads to, sizes that stay in range, and reading on.
 use Prim.Native.Nat.{ℕ, zero, suc, _+_, _-_, _<_, _≤_}
 use mathlib.Core.Path.{_≡_, refl}
-use mathlib.Core.Bool.{Bool, true, false, not, or-true}
-use mathlib.Core.Logic.{⊎-elim}
+use mathlib.Core.Bool.{Bool, true, false, not}
 use mathlib.Core.List.{List, [], _∷_}
 use native.Mathlib.Omega.{arith}
-use native.Mathlib.Numerals.{add-one, sub-one}
+use native.Mathlib.Numerals.{sub-one}
 use lib.Dec.{ltb}
 use lib.ListN.{length, set}
 use borrow.Author.Tests.{ltb-false}
-use Rattle.integer.proofs.Places.{lt-or-le}
 use Rattle.integer.proofs.Tests.{by-test, none}
 use Rattle.commands.specs.declared.Command.{Command}
 use Rattle.commands.specs.declared.Command.the-variants as command
 use Rattle.commands.specs.declared.Entry.{Entry}
 use Rattle.commands.specs.declared.Entry.the-variants.{State, Input, Drift, Column, Start, Rounds}
 use Rattle.commands.specs.Format.{decoded, bytesOf, wrongSize, beyond, wrong, placeOf}
+use Rattle.commands.specs.Room.{Small}
 use Rattle.tape.specs.declared.Tape.{Tape}
 use Rattle.tape.specs.declared.reader.Reader.{Reader}
 use Rattle.tape.specs.declared.reader.Verdict.{Verdict}
@@ -23,23 +22,7 @@ use Rattle.tape.specs.declared.reader.Verdict.the-variants.{Going, Ended
 use Rattle.tape.specs.declared.refusal.Refusal.{Refusal}
 use Rattle.tape.specs.Refusals.{row, figure}
 use Rattle.tape.specs.Tape.{withSize, with}
-use Rattle.tape.specs.Reading.{refuse, refuseWhen, marked, sized, lacks, absent, obeySize, obeyEntry, obeyEnd, obey, next, outcome, readFrom}
-
--- ---- Places without a mark
-
-pub lacks-at : (given : List Bool) (p count i : ℕ) → i < count → marked given (p + i) ≡ false → lacks given p count ≡ true
-unfolding lacks
-lacks-at given p zero i h e = let z : ⊥ = omega arith in absurd z
-lacks-at given p (suc count) i h e =
-    ⊎-elim
-    (λ l. rw (lacks-at given p count i l e))
-    (λ l. let z : count ≡ i = omega arith in rw (z, e) (or-true (lacks given p i)))
-    (lt-or-le i count)
-
-pub lacks-more : (given : List Bool) (p count : ℕ) → lacks given p count ≡ false → marked given (p + count) ≡ true →
-    lacks given p (count + 1) ≡ false
-unfolding lacks
-lacks-more given p count e f = rw (add-one count, e, f)
+use Rattle.tape.specs.Reading.{refuse, refuseWhen, marked, sized, absent, obeySize, obeyEntry, obeyEnd, obey, next, outcome, readFrom, opened}
 
 -- ---- What the next command leads to: to a reader of which P holds, if P holds where the command is refused and where it is obeyed
 
@@ -48,9 +31,9 @@ pub record Leads (P : Reader → Type 0) (s : List ℕ) (q : Reader) : Type 0 wh
   pub size : (n m horizon : ℕ) → sized (q .tape) ≡ false → wrongSize n m horizon ≡ false →
       P (record { at = q .at + 4; verdict = Going; tape = withSize (q .tape) n m horizon; given = q .given })
   pub entry : (e : Entry) → decoded s (q .at) ≡ command.Give e →
-      not (sized (q .tape)) ≡ false → beyond (q .tape .n) (q .tape .m) e ≡ false → wrong e ≡ false → marked (q .given) (placeOf e) ≡ false →
+      not (sized (q .tape)) ≡ false → beyond (q .tape .n) (q .tape .m) (q .tape .horizon) e ≡ false → wrong e ≡ false → marked (q .given) (placeOf e) ≡ false →
       P (record { at = q .at + bytesOf e; verdict = Going; tape = with (q .tape) e; given = set (q .given) (placeOf e) true })
-  pub ended : not (sized (q .tape)) ≡ false → absent (q .tape .n) (q .tape .m) (q .given) ≡ false →
+  pub ended : not (sized (q .tape)) ≡ false → absent (q .tape .n) (q .tape .m) (q .tape .horizon) (q .given) ≡ false →
       P (record { at = q .at; verdict = Ended; tape = q .tape; given = q .given })
 
 module _ (P : Reader → Type 0) (s : List ℕ) (q : Reader) (k : Leads P s q) where
@@ -76,27 +59,29 @@ module _ (P : Reader → Type 0) (s : List ℕ) (q : Reader) (k : Leads P s q) w
 
 -- ---- The sizes stay in range
 
-pub record Small (t : Tape) : Type 0 where
-  pub n : t .n ≤ 6
-  pub m : t .m ≤ 4
+abbrev pub SmallTape : Tape → Type 0
+SmallTape t = Small (t .n) (t .m) (t .horizon)
 
-small-size : (t : Tape) (n m horizon : ℕ) → wrongSize n m horizon ≡ false → Small (withSize t n m horizon)
+pub small-opened : SmallTape (opened .tape)
+small-opened = record { states = omega arith; inputs = omega arith; steps = omega arith }
+
+small-size : (t : Tape) (n m horizon : ℕ) → wrongSize n m horizon ≡ false → SmallTape (withSize t n m horizon)
 unfolding wrongSize
 small-size t n m horizon e =
     let o = none (ltb n 1) (ltb 6 n ∷ ltb m 1 ∷ ltb 4 m ∷ ltb horizon 1 ∷ ltb 12 horizon ∷ []) e in
-    record { n = omega (arith, ltb-false); m = omega (arith, ltb-false) }
+    record { states = omega (arith, ltb-false); inputs = omega (arith, ltb-false); steps = omega (arith, ltb-false) }
 
-small-with : (t : Tape) (e : Entry) → Small t → Small (with t e)
-small-with t (State i j v) h = record { n = h .n; m = h .m }
-small-with t (Input i j v) h = record { n = h .n; m = h .m }
-small-with t (Drift i v) h = record { n = h .n; m = h .m }
-small-with t (Column c lo hi r w) h = record { n = h .n; m = h .m }
-small-with t (Start i v) h = record { n = h .n; m = h .m }
-small-with t (Rounds g rounds wanted) h = record { n = h .n; m = h .m }
+small-with : (t : Tape) (e : Entry) → SmallTape t → SmallTape (with t e)
+small-with t (State i j v) h = h
+small-with t (Input i j v) h = h
+small-with t (Drift i v) h = h
+small-with t (Column c lo hi r w) h = h
+small-with t (Start i v) h = h
+small-with t (Rounds g rounds wanted) h = h
 
-pub small-next : (s : List ℕ) (q : Reader) → Small (q .tape) → Small (next s q .tape)
+pub small-next : (s : List ℕ) (q : Reader) → SmallTape (q .tape) → SmallTape (next s q .tape)
 small-next s q h =
-    next-leads (λ r. Small (r .tape)) s q
+    next-leads (λ r. SmallTape (r .tape)) s q
     (record { refused = λ _ _. h; size = λ n m horizon _ w. small-size (q .tape) n m horizon w; entry = λ e _ _ _ _ _. small-with (q .tape) e h; ended = λ _ _. h })
 
 -- ---- Reading on

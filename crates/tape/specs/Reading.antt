@@ -1,13 +1,15 @@
 -- Reading a tape: commands from the front, the tests of each in the order 2, 1, 3, 4, 5, 6, and at FF 7, then 8.
 use Prim.Native.Nat.{ℕ, zero, suc, _+_}
-use mathlib.Core.Bool.{Bool, true, false, not, cond, _||_}
+use mathlib.Core.Bool.{Bool, true, false, not, cond, _&&_}
 use mathlib.Core.List.{List}
 use lib.Dec.{ltb}
 use lib.ListN.{length, set, getD, replicate}
+use Rattle.integer.specs.Tests.{any}
 use Rattle.commands.specs.declared.Command.{Command}
 use Rattle.commands.specs.declared.Command.the-variants as command
 use Rattle.commands.specs.declared.Entry.{Entry}
-use Rattle.commands.specs.Format.{decoded, bytesOf, wrongSize, beyond, wrong, placeOf}
+use Rattle.commands.specs.Format.{decoded, bytesOf, wrongSize, beyond, wrong, placeOf, required}
+use Rattle.commands.specs.Marks.{placeCount}
 use Rattle.tape.specs.declared.Answer.the-variants as answer
 use Rattle.tape.specs.declared.Reading.{Reading}
 use Rattle.tape.specs.declared.Tape.{Tape}
@@ -43,25 +45,20 @@ obeySize n m horizon q =
 unfoldable pub obeyEntry : Entry → Reader → Reader
 obeyEntry e q =
     refuseWhen (not (sized (q .tape))) (Misplaced (q .at)) q
-    (refuseWhen (beyond (q .tape .n) (q .tape .m) e) (NoSuchPlace (q .at)) q
+    (refuseWhen (beyond (q .tape .n) (q .tape .m) (q .tape .horizon) e) (NoSuchPlace (q .at)) q
     (refuseWhen (wrong e) (OutOfRange (q .at)) q
     (refuseWhen (marked (q .given) (placeOf e)) (Twice (q .at)) q
     (record { at = q .at + bytesOf e; verdict = Going; tape = with (q .tape) e; given = set (q .given) (placeOf e) true }))))
 
--- one of the count places from p on has no mark
-unfoldable pub lacks : List Bool → ℕ → ℕ → Bool
-lacks given p zero = false
-lacks given p (suc count) = lacks given p count || not (marked given (p + count))
-
--- every column, every start value and command 50
-unfoldable pub absent : ℕ → ℕ → List Bool → Bool
-absent n m given = lacks given 66 (n + m) || lacks given 76 n || lacks given 82 1
+-- a required place has no mark
+unfoldable pub absent : ℕ → ℕ → ℕ → List Bool → Bool
+absent n m horizon given = any placeCount (λ p. required n m horizon p && not (marked given p))
 
 -- FF: 3, 7, and 8 at the offset after FF
 unfoldable pub obeyEnd : List ℕ → Reader → Reader
 obeyEnd s q =
     refuseWhen (not (sized (q .tape))) (Misplaced (q .at)) q
-    (refuseWhen (absent (q .tape .n) (q .tape .m) (q .given)) (Absent (q .at)) q
+    (refuseWhen (absent (q .tape .n) (q .tape .m) (q .tape .horizon) (q .given)) (Absent (q .at)) q
     (refuseWhen (ltb (q .at + 1) (length s)) (Overrun (q .at + 1)) q
     (record { at = q .at; verdict = Ended; tape = q .tape; given = q .given })))
 
@@ -92,7 +89,7 @@ readFrom s zero q = refusedTape (Cut (length s))
 readFrom s (suc left) q = let r = next s q in outcome (r .verdict) (r .tape) (readFrom s left r)
 
 abbrev pub opened : Reader
-opened = record { at = 0; verdict = Going; tape = blank; given = replicate 83 false }
+opened = record { at = 0; verdict = Going; tape = blank; given = replicate placeCount false }
 
 unfoldable pub reading : List ℕ → Reading
 reading s = readFrom s (length s) opened

@@ -37,21 +37,41 @@ blank = tapeOf 0 0 0 (zeros 36) (zeros 24) (zeros 6) (zeros 10) (zeros 10) (zero
 abbrev pub referenceAt : Tape → ℕ → ℕ → ℤ
 referenceAt t column step = at (t .reference) column
 
--- the sizes, or the entry's numbers, in place of those that are there
+-- ---- Numbers in place of those that are there: a function for each group of fields
+
 abbrev pub withSize : Tape → ℕ → ℕ → ℕ → Tape
 withSize t n m horizon =
     tapeOf n m horizon (t .a) (t .b) (t .drift) (t .low) (t .high) (t .reference) (t .weight) (t .start) (t .gain) (t .rounds) (t .wanted)
 
+abbrev pub withA : Tape → List ℤ → Tape
+withA t a =
+    tapeOf (t .n) (t .m) (t .horizon) a (t .b) (t .drift) (t .low) (t .high) (t .reference) (t .weight) (t .start) (t .gain) (t .rounds) (t .wanted)
+
+abbrev pub withB : Tape → List ℤ → Tape
+withB t b =
+    tapeOf (t .n) (t .m) (t .horizon) (t .a) b (t .drift) (t .low) (t .high) (t .reference) (t .weight) (t .start) (t .gain) (t .rounds) (t .wanted)
+
+abbrev pub withDrift : Tape → List ℤ → Tape
+withDrift t drift =
+    tapeOf (t .n) (t .m) (t .horizon) (t .a) (t .b) drift (t .low) (t .high) (t .reference) (t .weight) (t .start) (t .gain) (t .rounds) (t .wanted)
+
+abbrev pub withColumns : Tape → List ℤ → List ℤ → List ℤ → List ℤ → Tape
+withColumns t low high reference weight =
+    tapeOf (t .n) (t .m) (t .horizon) (t .a) (t .b) (t .drift) low high reference weight (t .start) (t .gain) (t .rounds) (t .wanted)
+
+abbrev pub withStart : Tape → List ℤ → Tape
+withStart t start =
+    tapeOf (t .n) (t .m) (t .horizon) (t .a) (t .b) (t .drift) (t .low) (t .high) (t .reference) (t .weight) start (t .gain) (t .rounds) (t .wanted)
+
+abbrev pub withRounds : Tape → ℤ → ℕ → ℤ → Tape
+withRounds t gain rounds wanted =
+    tapeOf (t .n) (t .m) (t .horizon) (t .a) (t .b) (t .drift) (t .low) (t .high) (t .reference) (t .weight) (t .start) gain rounds wanted
+
+-- the entry's numbers
 abbrev pub with : Tape → Entry → Tape
-with t (State i j v) =
-    tapeOf (t .n) (t .m) (t .horizon) (set (t .a) (6 * i + j) v) (t .b) (t .drift) (t .low) (t .high) (t .reference) (t .weight) (t .start) (t .gain) (t .rounds) (t .wanted)
-with t (Input i j v) =
-    tapeOf (t .n) (t .m) (t .horizon) (t .a) (set (t .b) (4 * i + j) v) (t .drift) (t .low) (t .high) (t .reference) (t .weight) (t .start) (t .gain) (t .rounds) (t .wanted)
-with t (Drift i v) =
-    tapeOf (t .n) (t .m) (t .horizon) (t .a) (t .b) (set (t .drift) i v) (t .low) (t .high) (t .reference) (t .weight) (t .start) (t .gain) (t .rounds) (t .wanted)
-with t (Column c lo hi r h) =
-    tapeOf (t .n) (t .m) (t .horizon) (t .a) (t .b) (t .drift) (set (t .low) c lo) (set (t .high) c hi) (set (t .reference) c r) (set (t .weight) c h) (t .start) (t .gain) (t .rounds) (t .wanted)
-with t (Start i v) =
-    tapeOf (t .n) (t .m) (t .horizon) (t .a) (t .b) (t .drift) (t .low) (t .high) (t .reference) (t .weight) (set (t .start) i v) (t .gain) (t .rounds) (t .wanted)
-with t (Rounds g rounds wanted) =
-    tapeOf (t .n) (t .m) (t .horizon) (t .a) (t .b) (t .drift) (t .low) (t .high) (t .reference) (t .weight) (t .start) g rounds wanted
+with t (State i j v) = withA t (set (t .a) (6 * i + j) v)
+with t (Input i j v) = withB t (set (t .b) (4 * i + j) v)
+with t (Drift i v) = withDrift t (set (t .drift) i v)
+with t (Column c lo hi r h) = withColumns t (set (t .low) c lo) (set (t .high) c hi) (set (t .reference) c r) (set (t .weight) c h)
+with t (Start i v) = withStart t (set (t .start) i v)
+with t (Rounds g rounds wanted) = withRounds t g rounds wanted

@@ -1,12 +1,12 @@
 // Reading: commands from the front, each tested in document 01's order.
-ghost use Prim.Native.Nat.{_+_, _^_, _<_, _≤_};
+ghost use Prim.Native.Nat.{_+_, _^_, _<_};
 ghost use mathlib.Core.Path.{_≡_};
 ghost use mathlib.Core.Bool.{false};
 ghost use lib.ListN.{length};
 ghost use Rattle.commands.specs.Format.{bytesOf, beyond};
-ghost use Rattle.commands.specs.Room.{Room};
+ghost use Rattle.commands.specs.Room.{Room, Small};
 ghost use Rattle.tape.specs.Tape.{with};
-ghost use Rattle.tape.specs.Reading.{refuse, obeySize, obeyEntry, lacks, absent, obeyEnd, obey, next, opened, reading};
+ghost use Rattle.tape.specs.Reading.{refuse, obeySize, obeyEntry, absent, obeyEnd, obey, next, opened, reading};
 use crate::Answer;
 use crate::Reading;
 use crate::Tape;
@@ -17,8 +17,10 @@ use commands::Entry;
 use commands::bytes_of;
 use commands::decode;
 use commands::is_beyond;
+use commands::is_required;
 use commands::is_wrong;
 use commands::is_wrong_size;
+use commands::mark::PLACE_COUNT;
 use commands::place_of;
 
 pub enum Verdict {
@@ -33,7 +35,7 @@ pub struct Reader {
     pub at: usize,
     pub verdict: Verdict,
     pub tape: Tape,
-    pub given: [bool; 83],
+    pub given: [bool; PLACE_COUNT],
 }
 
 fn refused(q: Reader, why: Refusal) -> Reader
@@ -51,7 +53,7 @@ fn refused(q: Reader, why: Refusal) -> Reader
 
 // The entry's numbers, stored.
 fn stored(tape: Tape, entry: Entry) -> Tape
-    requires { ⌜ (tape .n ≤ 6) × (tape .m ≤ 4) × (beyond (tape .n) (tape .m) entry ≡ false) ⌝ }
+    requires { ⌜ Small (tape .n) (tape .m) (tape .horizon) × (beyond (tape .n) (tape .m) (tape .horizon) entry ≡ false) ⌝ }
     ensures { λ r. ⌜ r ≡ with tape entry ⌝ }
 {
     let mut t = tape;
@@ -115,22 +117,23 @@ fn obey_size(n: usize, m: usize, horizon: usize, q: Reader) -> Reader
 }
 
 fn obey_entry(entry: Entry, q: Reader) -> Reader
-    requires { ⌜ (q .tape .n ≤ 6) × (q .tape .m ≤ 4) × (q .at + bytesOf entry < 2 ^ 64) ⌝ }
+    requires { ⌜ Small (q .tape .n) (q .tape .m) (q .tape .horizon) × (q .at + bytesOf entry < 2 ^ 64) ⌝ }
     ensures { λ r. ⌜ r ≡ obeyEntry entry q ⌝ }
 {
     let at = q.at;
     let n = q.tape.n;
     let m = q.tape.m;
+    let horizon = q.tape.horizon;
     if n < 1 {
         return refused(q, Refusal::Misplaced(at));
     }
-    if is_beyond(entry, n, m) {
+    if is_beyond(entry, n, m, horizon) {
         return refused(q, Refusal::NoSuchPlace(at));
     }
     if is_wrong(entry) {
         return refused(q, Refusal::OutOfRange(at));
     }
-    let place = place_of(entry, n, m);
+    let place = place_of(entry, n, m, horizon);
     let mut given = q.given;
     if given[place] {
         return refused(q, Refusal::Twice(at));
@@ -145,41 +148,34 @@ fn obey_entry(entry: Entry, q: Reader) -> Reader
     }
 }
 
-// Whether one of the count places from p on has no mark.
-fn is_lacking(given: [bool; 83], p: usize, count: usize) -> bool
-    requires { ⌜ p + count ≤ 83 ⌝ }
-    ensures { λ r. ⌜ r ≡ lacks given p count ⌝ }
+// Whether a required place has no mark.
+fn is_absent(given: [bool; PLACE_COUNT], n: usize, m: usize, horizon: usize) -> bool
+    requires { ⌜ Small n m horizon ⌝ }
+    ensures { λ r. ⌜ r ≡ absent n m horizon given ⌝ }
 {
-    let mut i = 0;
-    while i < count {
-        let place = p + i;
-        if !given[place] {
+    let mut place = 0;
+    while place < PLACE_COUNT {
+        if is_required(place, n, m, horizon) && !given[place] {
             return true;
         }
-        i += 1;
+        place += 1;
     }
     false
 }
 
-fn is_absent(given: [bool; 83], n: usize, m: usize) -> bool
-    requires { ⌜ (n ≤ 6) × (m ≤ 4) ⌝ }
-    ensures { λ r. ⌜ r ≡ absent n m given ⌝ }
-{
-    is_lacking(given, 66, n + m) || is_lacking(given, 76, n) || is_lacking(given, 82, 1)
-}
-
 fn obey_end(s: &[u8], q: Reader) -> Reader
-    requires { ⌜ (q .tape .n ≤ 6) × (q .tape .m ≤ 4) × (q .at < length (now s)) ⌝ }
+    requires { ⌜ Small (q .tape .n) (q .tape .m) (q .tape .horizon) × (q .at < length (now s)) ⌝ }
     ensures { λ r. ⌜ r ≡ obeyEnd (now (s .entry)) q ⌝ }
 {
     let at = q.at;
     let n = q.tape.n;
     let m = q.tape.m;
+    let horizon = q.tape.horizon;
     let given = q.given;
     if n < 1 {
         return refused(q, Refusal::Misplaced(at));
     }
-    if is_absent(given, n, m) {
+    if is_absent(given, n, m, horizon) {
         return refused(q, Refusal::Absent(at));
     }
     if at + 1 < s.len() {
@@ -195,7 +191,7 @@ fn obey_end(s: &[u8], q: Reader) -> Reader
 }
 
 fn obeyed(command: Command, s: &[u8], q: Reader) -> Reader
-    requires { ⌜ (q .tape .n ≤ 6) × (q .tape .m ≤ 4) × Room (q .at) (length (now s)) command ⌝ }
+    requires { ⌜ Small (q .tape .n) (q .tape .m) (q .tape .horizon) × Room (q .at) (length (now s)) command ⌝ }
     ensures { λ r. ⌜ r ≡ obey command (now (s .entry)) q ⌝ }
 {
     let at = q.at;
@@ -209,7 +205,7 @@ fn obeyed(command: Command, s: &[u8], q: Reader) -> Reader
 }
 
 fn step(s: &[u8], q: Reader) -> Reader
-    requires { ⌜ (q .tape .n ≤ 6) × (q .tape .m ≤ 4) ⌝ }
+    requires { ⌜ Small (q .tape .n) (q .tape .m) (q .tape .horizon) ⌝ }
     ensures { λ r. ⌜ r ≡ next (now (s .entry)) q ⌝ }
 {
     let at = q.at;
@@ -224,7 +220,7 @@ fn open() -> Reader
     ensures { λ r. ⌜ r ≡ opened ⌝ }
 {
     let tape = blank_tape();
-    let given = [false; 83];
+    let given = [false; PLACE_COUNT];
     Reader {
         at: 0,
         verdict: Verdict::Going,

@@ -57,7 +57,17 @@ returns-2 c =
     let reference = c .i16-at3 in
     let weight = toZ-pos w64 {n = c .before .before .before .before .u8-at .result} (omega arith) in
     uncut 8 (a .s .now) (a .at) (omega arith)
-    (cc (called (low .result) (low .ok), called (high .result) (high .ok), called (reference .result) (reference .ok), weight))
+    (rw (
+      called (low .result) (low .ok),
+      called (high .result) (high .ok),
+      called (reference .result) (reference .ok),
+      weight,
+      low .ensures .0,
+      high .ensures .0,
+      reference .ensures .0,
+      c .before .before .before .before .u8-at .ensures .0,
+      c .before .before .before .u8-at2 .ensures .0,
+    ))
 
 pub column-spec : {M : Type 1} → statement M
 column-spec =

@@ -7,7 +7,7 @@ use Rattle.commands.proofs.place_of.Statement.{statement}
 use Rattle.commands.proofs.place_of.Tie as tie
 
 bounds : (c : tie.Start) {e : Entry} → c .args .entry ≡ e → Inside e
-bounds c e = rw e at (inside _ _ _ (c .pre .0) (c .pre .1) (c .pre .2))
+bounds c e = rw e at (inside _ _ _ _ (c .pre .0) (c .pre .1))
 
 enum-known-entry : tie.Need-enum-known-entry
 enum-known-entry c = search needs
@@ -18,35 +18,38 @@ mul-result c = omega (arith, bounds (c .before .before .before) (c .before .entr
 add-result : tie.Need-add-result
 add-result c = omega (arith, bounds (c .before .before .before) (c .before .entry .given .1))
 
+add-result-2 : tie.Need-add-result-2
+add-result-2 c = omega (arith, bounds (c .before .before .before) (c .before .entry .given .1))
+
 enum-known-entry-2 : tie.Need-enum-known-entry-2
 enum-known-entry-2 c = search needs
 
 mul-result-2 : tie.Need-mul-result-2
 mul-result-2 c = omega (arith, bounds (c .before .before .before) (c .before .entry2 .given .1))
 
-add-result-2 : tie.Need-add-result-2
-add-result-2 c = omega (arith, bounds (c .before .before .before) (c .before .entry2 .given .1))
-
 add-result-3 : tie.Need-add-result-3
 add-result-3 c = omega (arith, bounds (c .before .before .before) (c .before .entry2 .given .1))
+
+add-result-4 : tie.Need-add-result-4
+add-result-4 c = omega (arith, bounds (c .before .before .before) (c .before .entry2 .given .1))
 
 enum-known-entry-3 : tie.Need-enum-known-entry-3
 enum-known-entry-3 c = search needs
 
-add-result-4 : tie.Need-add-result-4
-add-result-4 c = omega (arith, bounds (c .before .before .before) (c .before .entry3 .given .1))
+add-result-5 : tie.Need-add-result-5
+add-result-5 c = omega (arith, bounds (c .before .before .before) (c .before .entry3 .given .1))
 
 enum-known-entry-4 : tie.Need-enum-known-entry-4
 enum-known-entry-4 c = search needs
 
-add-result-5 : tie.Need-add-result-5
-add-result-5 c = omega (arith, bounds (c .before .before .before) (c .before .entry4 .given .1))
+add-result-6 : tie.Need-add-result-6
+add-result-6 c = omega (arith, bounds (c .before .before .before) (c .before .entry4 .given .1))
 
 enum-known-entry-5 : tie.Need-enum-known-entry-5
 enum-known-entry-5 c = search needs
 
-add-result-6 : tie.Need-add-result-6
-add-result-6 c = omega (arith, bounds (c .before .before .before) (c .before .entry5 .given .1))
+add-result-7 : tie.Need-add-result-7
+add-result-7 c = omega (arith, bounds (c .before .before .before) (c .before .entry5 .given .1))
 
 enum-told : tie.Need-enum-told
 enum-told c = search needs
@@ -76,16 +79,17 @@ place-of-spec =
     enum-known-entry
     mul-result
     add-result
+    add-result-2
     enum-known-entry-2
     mul-result-2
-    add-result-2
     add-result-3
-    enum-known-entry-3
     add-result-4
-    enum-known-entry-4
+    enum-known-entry-3
     add-result-5
-    enum-known-entry-5
+    enum-known-entry-4
     add-result-6
+    enum-known-entry-5
+    add-result-7
     enum-told
     returns
     returns-2

@@ -1,3 +1,4 @@
+use mathlib.Core.Path.{refl}
 use native.Mathlib.Omega.{arith}
 use mir.Syntax.{w64}
 use mir.Facts.{toZ-pos}
@@ -44,7 +45,8 @@ returns-2 c =
     let a = c .before .before .before .before .before .args in
     let gain = toZ-pos w64 {n = c .before .before .u16-at .result} (omega arith) in
     let wanted = toZ-pos w64 {n = c .before .u32-at .result} (omega arith) in
-    uncut 8 (a .s .now) (a .at) (omega arith) (cc)
+    uncut 8 (a .s .now) (a .at) (omega arith)
+    (rw (gain, wanted, c .before .before .u16-at .ensures .0, c .before .u32-at .ensures .0, c .u16-at2 .ensures .0) refl)
 
 pub rounds-spec : {M : Type 1} → statement M
 rounds-spec =

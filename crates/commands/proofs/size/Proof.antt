@@ -1,3 +1,4 @@
+use mathlib.Core.Path.{refl}
 use native.Mathlib.Omega.{arith}
 use borrow.Author.Needs.{needs}
 use Rattle.commands.specs.Format.{sizeCommand}
@@ -32,7 +33,10 @@ u8-at-requires-3 c κs = search needs
 
 returns-2 : tie.Need-returns-2
 unfolding sizeCommand
-returns-2 c = let a = c .before .before .before .before .before .args in uncut 3 (a .s .now) (a .at) (omega arith) (cc)
+returns-2 c =
+    let a = c .before .before .before .before .before .args in
+    uncut 3 (a .s .now) (a .at) (omega arith)
+    (rw (c .before .before .u8-at .ensures .0, c .before .u8-at2 .ensures .0, c .u8-at3 .ensures .0) refl)
 
 pub size-spec : {M : Type 1} → statement M
 size-spec =

@@ -1,3 +1,4 @@
+use mathlib.Core.Path.{refl}
 use native.Mathlib.Omega.{arith}
 use borrow.Author.Needs.{needs}
 use Rattle.integer.proofs.Sizes.{called}
@@ -29,7 +30,8 @@ returns-2 : tie.Need-returns-2
 unfolding startCommand
 returns-2 c =
     let a = c .before .before .before .before .args in
-    uncut 3 (a .s .now) (a .at) (omega arith) (cc (called (c .i16-at .result) (c .i16-at .ok)))
+    let v = c .i16-at in
+    uncut 3 (a .s .now) (a .at) (omega arith) (rw (called (v .result) (v .ok), v .ensures .0, c .before .u8-at .ensures .0) refl)
 
 pub start-spec : {M : Type 1} → statement M
 start-spec =

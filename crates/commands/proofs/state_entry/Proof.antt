@@ -1,3 +1,4 @@
+use mathlib.Core.Path.{refl}
 use native.Mathlib.Omega.{arith}
 use borrow.Author.Needs.{needs}
 use Rattle.integer.proofs.Sizes.{called}
@@ -35,7 +36,9 @@ returns-2 : tie.Need-returns-2
 unfolding stateCommand
 returns-2 c =
     let a = c .before .before .before .before .before .args in
-    uncut 4 (a .s .now) (a .at) (omega arith) (cc (called (c .i16-at .result) (c .i16-at .ok)))
+    let v = c .i16-at in
+    uncut 4 (a .s .now) (a .at) (omega arith)
+    (rw (called (v .result) (v .ok), v .ensures .0, c .before .u8-at2 .ensures .0, c .before .before .u8-at .ensures .0) refl)
 
 pub state-entry-spec : {M : Type 1} → statement M
 state-entry-spec =

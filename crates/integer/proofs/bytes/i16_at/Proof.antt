@@ -1,13 +1,7 @@
-use Prim.Native.Nat.{_^_}
-use mathlib.Core.Path.{refl, sym, _∙_}
-use native.Mathlib.Omega.{arith}
-use lib.IntN.{pos}
+use mathlib.Core.Path.{refl}
 use borrow.Author.Needs.{needs}
-use Rattle.integer.specs.Operand.{signed, operand}
-use Rattle.integer.proofs.Parts.{negated, times}
-use Rattle.integer.proofs.Order.{order}
 use Rattle.integer.proofs.Sizes.{called}
-use Rattle.integer.proofs.Operand.{signed-operand, signed-range, bytes-of}
+use Rattle.integer.proofs.Operand.{signed-at, bytes-of}
 use Rattle.integer.proofs.bytes.i16_at.Statement.{statement}
 use Rattle.integer.proofs.bytes.i16_at.Tie as tie
 
@@ -21,11 +15,8 @@ returns : tie.Need-returns
 returns c =
     let f = c .from-twos-complement in
     let s = c .before .before .before in
-    let a = s .args in
-    let e = rw (c .before .u16-at .ensures .0) at (f .ensures) ∙ sym (signed-operand 2 (a .s .now) (a .at) (s .pre)) in
-    let z = signed (operand 2 (a .s .now) (a .at)) in
-    let r = signed-range 2 (a .s .now) (a .at) (bytes-of (c .before .before .shared-slice-known .given)) (s .pre) in
-    rw (called (f .result) (f .ok), e) (refl, omega (arith, order, times (pos 2) z, negated (pos (256 ^ 2))), omega (arith, order, times (pos 2) z))
+    rw (called (f .result) (f .ok))
+    (signed-at 2 32767 (s .args .s .now) (s .args .at) refl (bytes-of (c .before .before .shared-slice-known .given)) (s .pre) (c .before .u16-at .ensures .0) (f .ensures))
 
 pub i16-at-spec : {M : Type 1} → statement M
 i16-at-spec = tie.close (tie.spec u16-at-requires from-twos-complement-requires returns)

@@ -1,6 +1,5 @@
-use native.Mathlib.Omega.{arith}
 use borrow.Author.Needs.{needs}
-use Rattle.integer.proofs.Operand.{unsigned-parts, unsigned-range, bytes-of}
+use Rattle.integer.proofs.Operand.{unsigned-at, bytes-of}
 use Rattle.integer.proofs.bytes.u16_at.Statement.{statement}
 use Rattle.integer.proofs.bytes.u16_at.Tie as tie
 
@@ -22,9 +21,8 @@ add-result c = search needs
 returns : tie.Need-returns
 returns c =
     let s = c .before .before .before in
-    let a = s .args in
-    let e = unsigned-parts 1 1 (a .s .now) (a .at) (omega arith) in
-    (omega arith, omega (arith, unsigned-range 2 (a .s .now) (a .at) (bytes-of (c .before .before .shared-slice-known .given)) (s .pre)))
+    unsigned-at 1 1 (s .args .s .now) (s .args .at) (bytes-of (c .before .before .shared-slice-known .given)) (s .pre)
+    (c .before .u8-at .ensures .0) (c .u8-at2 .ensures .0)
 
 pub u16-at-spec : {M : Type 1} → statement M
 u16-at-spec =

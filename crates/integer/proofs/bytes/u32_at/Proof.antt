@@ -1,6 +1,5 @@
-use native.Mathlib.Omega.{arith}
 use borrow.Author.Needs.{needs}
-use Rattle.integer.proofs.Operand.{unsigned-parts, unsigned-range, bytes-of}
+use Rattle.integer.proofs.Operand.{unsigned-at, bytes-of}
 use Rattle.integer.proofs.bytes.u32_at.Statement.{statement}
 use Rattle.integer.proofs.bytes.u32_at.Tie as tie
 
@@ -22,9 +21,8 @@ add-result c = search needs
 returns : tie.Need-returns
 returns c =
     let s = c .before .before .before in
-    let a = s .args in
-    let e = unsigned-parts 2 2 (a .s .now) (a .at) (omega arith) in
-    (omega arith, omega (arith, unsigned-range 4 (a .s .now) (a .at) (bytes-of (c .before .before .shared-slice-known .given)) (s .pre)))
+    unsigned-at 2 2 (s .args .s .now) (s .args .at) (bytes-of (c .before .before .shared-slice-known .given)) (s .pre)
+    (c .before .u16-at .ensures .0) (c .u16-at2 .ensures .0)
 
 pub u32-at-spec : {M : Type 1} → statement M
 u32-at-spec =

@@ -1,47 +1,77 @@
-use mathlib.Core.Path.{refl, _∙_}
+use Prim.Native.Nat.{ℕ, _-_, _≤_}
+use mathlib.Core.Path.{_≡_, refl, sym, _∙_}
+use mathlib.Core.Bool.{Bool, false, not, _&&_}
+use mathlib.Core.List.{List}
+use mathlib.Core.Logic.{⊎-elim}
+use native.Mathlib.Omega.{arith}
 use borrow.Author.Needs.{needs}
-use Rattle.integer.proofs.Tests.{or-yes, or-no, or-met}
-use Rattle.tape.specs.Reading.{absent, lacks}
+use Rattle.integer.specs.Tests.{any}
+use Rattle.integer.proofs.Tests.{any-at, any-more}
+use Rattle.commands.specs.Format.{required}
+use Rattle.commands.specs.Marks.{placeCount}
+use Rattle.tape.specs.Reading.{marked, absent}
 use Rattle.tape.proofs.reader.is_absent.Statement.{statement}
 use Rattle.tape.proofs.reader.is_absent.Tie as tie
 
-add-is-lacking : tie.Need-add-is-lacking
-add-is-lacking c = search needs
+-- the place is required and has no mark
+abbrev lacking : ℕ → ℕ → ℕ → List Bool → ℕ → Bool
+lacking n m horizon given p = required n m horizon p && not (marked given p)
 
-is-lacking-requires : tie.Need-is-lacking-requires
-is-lacking-requires c κs = search needs
+abbrev Inv-loop : tie.InvT-loop
+Inv-loop n m horizon given place₀ place = (place ≤ placeCount) × (any place (lacking n m horizon given) ≡ false)
 
-is-lacking-requires-2 : tie.Need-is-lacking-requires-2
-is-lacking-requires-2 c κs = search needs
+abbrev μ-loop : tie.MeasureT-loop
+μ-loop n m horizon given place₀ place = placeCount - place
 
-is-lacking-requires-3 : tie.Need-is-lacking-requires-3
-is-lacking-requires-3 c κs = search needs
+-- at a place where the loop goes on
+passed : (c : tie.Joined1 Inv-loop μ-loop) → let a = c .before .before .before .before .args in
+    lacking (a .n) (a .m) (a .horizon) (a .t1) (c .before .before .before .loop .place) ≡ false
+passed c =
+    let e = sym (c .before .is-required .ensures) in
+    ⊎-elim (λ w. rw (e ∙ w .0 .taken) (w .1 .left)) (λ w. rw (e ∙ w .left)) (c .if1 .came)
 
-returns : tie.Need-returns
+loop-holds : tie.Need-loop-holds Inv-loop μ-loop
+unfolding any
+loop-holds c = (omega arith, refl)
+
+is-required-requires : tie.Need-is-required-requires Inv-loop μ-loop
+is-required-requires c κs = search needs
+
+array-read-if2 : tie.Need-array-read-if2 Inv-loop μ-loop
+array-read-if2 c = search needs
+
+returns : tie.Need-returns Inv-loop μ-loop
 unfolding absent
 returns c =
-    let m = c .before in
-    or-yes (lacks (m .before .before .args .given) 82 1)
-    (or-met (m .before .is-lacking .ensures) (m .if1 .came) (λ w. (w .0 .taken, w .1)) (λ w. (w .0 .left, w .2 ∙ w .1 .ensures)))
-    (c .if2 .taken)
-    refl
+    let e = sym (c .before .before .is-required .ensures) ∙ c .before .if1 .taken in
+    sym (any-at _ _ _ (c .before .before .before .loop-test .taken) (rw e (c .if2 .taken)))
 
-returns-2 : tie.Need-returns-2
+add-place : tie.Need-add-place Inv-loop μ-loop
+add-place c = search needs
+
+loop-less : tie.Need-loop-less Inv-loop μ-loop
+loop-less c = omega arith
+
+loop-again : tie.Need-loop-again Inv-loop μ-loop
+loop-again c = (omega arith, any-more _ _ (c .before .before .before .loop .inv .1) (passed c))
+
+returns-2 : tie.Need-returns-2 Inv-loop μ-loop
 unfolding absent
 returns-2 c =
-    let m = c .before .before in
-    or-no
-    (or-met (m .before .is-lacking .ensures) (m .if1 .came) (λ w. (w .0 .taken, w .1)) (λ w. (w .0 .left, w .2 ∙ w .1 .ensures)))
-    (c .before .if2 .left)
-    (c .is-lacking3 .ensures)
+    let z : c .before .loop .place ≡ placeCount = omega arith in
+    sym (rw z at (c .before .loop .inv .1))
 
 pub is-absent-spec : {M : Type 1} → statement M
 is-absent-spec =
     tie.close
     (tie.spec
-    add-is-lacking
-    is-lacking-requires
-    is-lacking-requires-2
-    is-lacking-requires-3
+    Inv-loop
+    μ-loop
+    loop-holds
+    is-required-requires
+    array-read-if2
     returns
+    add-place
+    loop-less
+    loop-again
     returns-2)

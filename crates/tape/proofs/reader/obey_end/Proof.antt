@@ -15,7 +15,7 @@ sized : (c : tie.Else1) → ltb 0 (c .before .before .before .args .q .tape .n) 
 sized c = lt-ltb 0 (c .before .before .before .args .q .tape .n) (omega arith)
 
 complete : (c : tie.Else2) → let q = c .before .before .before .before .before .args .q in
-    absent (q .tape .n) (q .tape .m) (q .given) ≡ false
+    absent (q .tape .n) (q .tape .m) (q .tape .horizon) (q .given) ≡ false
 complete c = sym (c .before .is-absent .ensures) ∙ c .if2 .left
 
 refused-requires : tie.Need-refused-requires
@@ -39,8 +39,8 @@ returns-2 c =
 add-if3 : tie.Need-add-if3
 add-if3 c = search needs
 
-add-t14 : tie.Need-add-t14
-add-t14 c = search needs
+add-t15 : tie.Need-add-t15
+add-t15 c = search needs
 
 refused-requires-3 : tie.Need-refused-requires-3
 refused-requires-3 c κs = search needs
@@ -69,7 +69,7 @@ obey-end-spec =
     refused-requires-2
     returns-2
     add-if3
-    add-t14
+    add-t15
     refused-requires-3
     returns-3
     returns-4)

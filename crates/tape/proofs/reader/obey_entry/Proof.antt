@@ -1,11 +1,11 @@
-use Prim.Native.Nat.{_≤_}
-use mathlib.Core.Path.{_≡_, sym, _∙_}
+use mathlib.Core.Path.{_≡_, refl, sym, _∙_}
 use mathlib.Core.Bool.{true, false}
 use native.Mathlib.Omega.{arith}
 use lib.Dec.{ltb}
 use borrow.Author.Tests.{lt-ltb, le-ltb}
 use borrow.Author.Needs.{needs}
 use Rattle.commands.specs.Format.{beyond, wrong}
+use Rattle.commands.specs.Room.{Small}
 use Rattle.tape.specs.Reading.{obeyEntry}
 use Rattle.tape.proofs.reader.obey_entry.Statement.{statement}
 use Rattle.tape.proofs.reader.obey_entry.Tie as tie
@@ -14,15 +14,15 @@ use Rattle.tape.proofs.reader.obey_entry.Tie as tie
 sized : (c : tie.Else1) → ltb 0 (c .before .args .q .tape .n) ≡ true
 sized c = lt-ltb 0 (c .before .args .q .tape .n) (omega arith)
 
-within : (c : tie.Else2) → let a = c .before .before .before .args in beyond (a .q .tape .n) (a .q .tape .m) (a .entry) ≡ false
+within : (c : tie.Else2) → let a = c .before .before .before .args in beyond (a .q .tape .n) (a .q .tape .m) (a .q .tape .horizon) (a .entry) ≡ false
 within c = sym (c .before .is-beyond .ensures) ∙ c .if2 .left
 
 in-range : (c : tie.Else3) → wrong (c .before .before .before .before .before .args .entry) ≡ false
 in-range c = sym (c .before .is-wrong .ensures) ∙ c .if3 .left
 
 placed : (c : tie.Else3) → let a = c .before .before .before .before .before .args in
-    (a .q .tape .n ≤ 6) × (a .q .tape .m ≤ 4) × (beyond (a .q .tape .n) (a .q .tape .m) (a .entry) ≡ false)
-placed c = let p = c .before .before .before .before .before .pre in (p .0, p .1, within (c .before .before))
+    Small (a .q .tape .n) (a .q .tape .m) (a .q .tape .horizon) × (beyond (a .q .tape .n) (a .q .tape .m) (a .q .tape .horizon) (a .entry) ≡ false)
+placed c = let p = c .before .before .before .before .before .pre in (p .0, within (c .before .before))
 
 refused-requires : tie.Need-refused-requires
 refused-requires c κs = search needs
@@ -80,8 +80,8 @@ stored-requires c κs = placed (c .before .before .before)
 bytes-of-requires : tie.Need-bytes-of-requires
 bytes-of-requires c κs = search needs
 
-add-t22 : tie.Need-add-t22
-add-t22 c = search needs
+add-t23 : tie.Need-add-t23
+add-t23 c = search needs
 
 returns-5 : tie.Need-returns-5
 unfolding obeyEntry
@@ -98,6 +98,7 @@ returns-5 c =
       in-range passed,
       mark,
     )
+    refl
 
 pub obey-entry-spec : {M : Type 1} → statement M
 obey-entry-spec =
@@ -118,5 +119,5 @@ obey-entry-spec =
     array-write-given
     stored-requires
     bytes-of-requires
-    add-t22
+    add-t23
     returns-5)

@@ -20,7 +20,7 @@ enum-known-command : tie.Need-enum-known-command
 enum-known-command c = search needs
 
 obey-size-requires : tie.Need-obey-size-requires
-obey-size-requires c κs = omega (arith, rw (c .before .command .given .1) at (c .before .before .before .before .pre .2))
+obey-size-requires c κs = omega (arith, rw (c .before .command .given .1) at (c .before .before .before .before .pre .1))
 
 enum-known-command-2 : tie.Need-enum-known-command-2
 enum-known-command-2 c = search needs
@@ -28,13 +28,13 @@ enum-known-command-2 c = search needs
 obey-entry-requires : tie.Need-obey-entry-requires
 obey-entry-requires c κs =
     let p = c .before .before .before .before .pre in
-    (p .0, p .1, omega (arith, rw (c .before .command2 .given .1) at (p .2)))
+    (p .0, omega (arith, rw (c .before .command2 .given .1) at (p .1)))
 
 enum-told-3 : tie.Need-enum-told-3
 enum-told-3 c = search needs
 
 obey-end-requires : tie.Need-obey-end-requires
-obey-end-requires c κs = let p = c .before .before .before .pre in (p .0, p .1, rw (c .enum-told3 .given .1) at (p .2))
+obey-end-requires c κs = let p = c .before .before .before .pre in (p .0, rw (c .enum-told3 .given .1) at (p .1))
 
 returns : tie.Need-returns
 unfolding obey

@@ -4,12 +4,12 @@ use native.Mathlib.Omega.{arith}
 use borrow.Author.Needs.{needs}
 use Rattle.tape.specs.declared.reader.Verdict.{Verdict}
 use Rattle.tape.specs.Reading.{readFrom, reading, outcome}
-use Rattle.tape.proofs.Steps.{Small, small-next, read-step}
+use Rattle.tape.proofs.Steps.{SmallTape, small-opened, small-next, read-step}
 use Rattle.tape.proofs.reader.read.Statement.{statement}
 use Rattle.tape.proofs.reader.read.Tie as tie
 
 abbrev Inv-loop : tie.InvT-loop
-Inv-loop tape q₀ left₀ q left = Small (q .tape) × (readFrom tape left q ≡ reading tape)
+Inv-loop tape q₀ left₀ q left = SmallTape (q .tape) × (readFrom tape left q ≡ reading tape)
 
 abbrev μ-loop : tie.MeasureT-loop
 μ-loop tape q₀ left₀ q left = left
@@ -25,7 +25,7 @@ open-requires c κs = search needs
 
 loop-holds : tie.Need-loop-holds Inv-loop μ-loop
 unfolding reading
-loop-holds c = rw (c .«open» .ensures) (record { n = omega arith; m = omega arith }, refl)
+loop-holds c = rw (c .«open» .ensures) (small-opened, refl)
 
 step-requires : tie.Need-step-requires Inv-loop μ-loop
 step-requires c κs = search needs

@@ -8,7 +8,7 @@ use Rattle.tape.proofs.reader.stored.Statement.{statement}
 use Rattle.tape.proofs.reader.stored.Tie as tie
 
 bounds : (c : tie.Start) {e : Entry} → c .args .entry ≡ e → Inside e
-bounds c e = rw e at (inside _ _ _ (c .pre .0) (c .pre .1) (c .pre .2))
+bounds c e = rw e at (inside _ _ _ _ (c .pre .0) (c .pre .1))
 
 enum-known-entry : tie.Need-enum-known-entry
 enum-known-entry c = search needs

@@ -1,0 +1,83 @@
+-- How far commands reach: the bytes of each, and that bytes behind a command change nothing.
+use Prim.Native.Nat.{ℕ, _+_, _<_, _≤_}
+use mathlib.Core.Path.{_≡_, refl}
+use mathlib.Core.List.{List, [], _++_}
+use native.Mathlib.Omega.{arith}
+use lib.ListN.{length, length-append, List·getD-append}
+use borrow.Author.Tests.{lt-ltb, le-ltb, lt-leb}
+use Rattle.integer.specs.Sum.{sumℕ}
+use Rattle.integer.specs.Operand.{operand}
+use Rattle.integer.proofs.Operand.{operand-front}
+use Rattle.commands.specs.declared.Command.{Command}
+use Rattle.commands.specs.declared.Entry.{Entry}
+use Rattle.commands.specs.declared.Entry.the-variants.{State, Input, Drift, Column, Start, Rounds}
+use Rattle.commands.specs.Format.{whole, sizeCommand, stateCommand, inputCommand, driftCommand, columnCommand, startCommand, roundsCommand, decoded}
+use Rattle.commands.specs.Format.{bytesOf, placeOf}
+use Rattle.commands.specs.Marks.{driftPlace, columnPlace, startPlace, roundsPlace, bytesAt, longestBytes, mostBytes, decidingBytes}
+use Rattle.commands.proofs.Tests.{Inside}
+
+-- ---- The bytes of a command, by its place
+
+pub bytes-at : (e : Entry) → Inside e → bytesAt (placeOf e) ≡ bytesOf e
+unfolding bytesAt
+bytes-at (State i j v) h = rw (lt-ltb (placeOf (State i j v)) driftPlace (omega arith))
+bytes-at (Input i j v) h = rw (lt-ltb (placeOf (Input i j v)) driftPlace (omega arith))
+bytes-at (Drift i v) h = rw (le-ltb (driftPlace + i) driftPlace (omega arith), lt-ltb (driftPlace + i) columnPlace (omega arith))
+bytes-at (Column c lo hi r w) h =
+    rw (le-ltb (columnPlace + c) driftPlace (omega arith), le-ltb (columnPlace + c) columnPlace (omega arith), lt-ltb (columnPlace + c) startPlace (omega arith))
+bytes-at (Start i v) h =
+    rw (
+      le-ltb (startPlace + i) driftPlace (omega arith),
+      le-ltb (startPlace + i) columnPlace (omega arith),
+      le-ltb (startPlace + i) startPlace (omega arith),
+      lt-ltb (startPlace + i) roundsPlace (omega arith),
+    )
+bytes-at (Rounds g rounds t) h = refl
+
+pub deciding-bytes : decidingBytes ≡ 472
+unfolding decidingBytes mostBytes sumℕ bytesAt
+deciding-bytes = refl
+
+-- ---- A command that ends in the front part of a tape: bytes behind that part change nothing
+
+module _ (xs ys : List ℕ) (at : ℕ) (room : at + longestBytes ≤ length xs) where
+  operand-same : (k j : ℕ) → j + k ≤ longestBytes → operand k (xs ++ ys) (at + j) ≡ operand k xs (at + j)
+  operand-same k j h = operand-front k xs ys (at + j) (omega arith)
+
+  whole-same : (k : ℕ) {c d : Command} → k < longestBytes → c ≡ d → whole k (xs ++ ys) at c ≡ whole k xs at d
+  whole-same k h e =
+      let l : at + k < length (xs ++ ys) = simp length-append (omega arith) in
+      rw (lt-leb (length (xs ++ ys)) (at + k) l, lt-leb (length xs) (at + k) (omega arith)) e
+
+  size-same : sizeCommand (xs ++ ys) at ≡ sizeCommand xs at
+  unfolding sizeCommand
+  size-same = whole-same 3 (omega arith) (rw (operand-same 1 1 (omega arith), operand-same 1 2 (omega arith), operand-same 1 3 (omega arith)))
+
+  state-same : stateCommand (xs ++ ys) at ≡ stateCommand xs at
+  unfolding stateCommand
+  state-same = whole-same 4 (omega arith) (rw (operand-same 1 1 (omega arith), operand-same 1 2 (omega arith), operand-same 2 3 (omega arith)))
+
+  input-same : inputCommand (xs ++ ys) at ≡ inputCommand xs at
+  unfolding inputCommand
+  input-same = whole-same 4 (omega arith) (rw (operand-same 1 1 (omega arith), operand-same 1 2 (omega arith), operand-same 2 3 (omega arith)))
+
+  drift-same : driftCommand (xs ++ ys) at ≡ driftCommand xs at
+  unfolding driftCommand
+  drift-same = whole-same 5 (omega arith) (rw (operand-same 1 1 (omega arith), operand-same 4 2 (omega arith)))
+
+  column-same : columnCommand (xs ++ ys) at ≡ columnCommand xs at
+  unfolding columnCommand
+  column-same = whole-same 8 (omega arith) (rw (operand-same 1 1 (omega arith), operand-same 2 2 (omega arith), operand-same 2 4 (omega arith), operand-same 2 6 (omega arith), operand-same 1 8 (omega arith)))
+
+  start-same : startCommand (xs ++ ys) at ≡ startCommand xs at
+  unfolding startCommand
+  start-same = whole-same 3 (omega arith) (rw (operand-same 1 1 (omega arith), operand-same 2 2 (omega arith)))
+
+  rounds-same : roundsCommand (xs ++ ys) at ≡ roundsCommand xs at
+  unfolding roundsCommand
+  rounds-same = whole-same 8 (omega arith) (rw (operand-same 2 1 (omega arith), operand-same 2 3 (omega arith), operand-same 4 5 (omega arith)))
+
+  pub decoded-front : decoded (xs ++ ys) at ≡ decoded xs at
+  unfolding decoded
+  decoded-front =
+      rw (List·getD-append xs ys 0 at (omega arith), size-same, state-same, input-same, drift-same, column-same, start-same, rounds-same)

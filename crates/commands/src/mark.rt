@@ -1,0 +1,15 @@
+// Where the marks stand: a mark for each place that a command can give. These are A, row by row at a
+// stride of 6, B at a stride of 4, w, the columns, x(0) and command 50.
+pub const STATE_PLACE: usize = 0;
+
+pub const INPUT_PLACE: usize = 36;
+
+pub const DRIFT_PLACE: usize = 60;
+
+pub const COLUMN_PLACE: usize = 66;
+
+pub const START_PLACE: usize = 76;
+
+pub const ROUNDS_PLACE: usize = 82;
+
+pub const PLACE_COUNT: usize = 83;

@@ -47,8 +47,8 @@ returns c =
     let n = c .before .before .before in
     let s = n .before .before in
     let a = s .args in
-    let first : n .check-number .result ≡ meets (a .k) (a .i) (a .s) (a .x) = _∙_ {b = computed n} (n .check-number .ensures) (computed-is n) in
-    rw (sym first ∙ c .before .enum-told .given .1)
+    let model : n .check-number .result ≡ meets (a .k) (a .i) (a .s) (a .x) = _∙_ {b = computed n} (n .check-number .ensures) (computed-is n) in
+    rw (sym model ∙ c .before .enum-told .given .1)
     (rw (toZ-ofZ (s .fits .low), toZ-ofZ (s .fits .high), toZ-ofZ (s .fits .x)) at (c .check-number2 .ensures))
 
 returns-2 : tie.Need-returns-2
@@ -56,8 +56,8 @@ unfolding stateCheck
 returns-2 c =
     let n = c .before .before .before in
     let a = n .before .before .args in
-    let first : n .check-number .result ≡ meets (a .k) (a .i) (a .s) (a .x) = _∙_ {b = computed n} (n .check-number .ensures) (computed-is n) in
-    rw (sym first ∙ c .before .model .given .1)
+    let model : n .check-number .result ≡ meets (a .k) (a .i) (a .s) (a .x) = _∙_ {b = computed n} (n .check-number .ensures) (computed-is n) in
+    rw (sym model ∙ c .before .model .given .1)
 
 pub check-state-spec : {M : Type 1} → statement M
 check-state-spec =

@@ -6,12 +6,11 @@ use mathlib.Core.List.{List, [], _∷_}
 use native.Mathlib.Omega.{arith}
 use borrow.Author.Tests.{eqb-true, not-false}
 use lib.ListN.{length}
-use lib.IntN.{ℤ, _-ℤ_}
+use lib.IntN.{ℤ}
 use lib.Signed.{ltZ}
-use Rattle.integer.specs.Tests.{outside}
 use Rattle.integer.proofs.Order.{order}
 use Rattle.integer.proofs.Operand.{Bytes}
-use Rattle.integer.proofs.Tests.{by-test, none, in-range, not-outside}
+use Rattle.integer.proofs.Tests.{by-test, none}
 use Rattle.tape.specs.declared.Answer.{Answer}
 use Rattle.tape.specs.declared.Answer.the-variants as answer
 use Rattle.tape.specs.declared.Tape.{Tape}
@@ -19,48 +18,48 @@ use Rattle.tape.specs.Legal.{Legal}
 use Rattle.tape.specs.Reading.{reading}
 use Rattle.tape.proofs.Facts.{legal}
 use Rattle.problem.specs.Model.{Problem, Plan, problemOf, planOf, multipliersOf, sumAt, rounded}
-use Rattle.problem.specs.Cost.{Follows, planCost}
-use Rattle.problem.specs.Dual.{floor, ceiling}
+use Rattle.problem.specs.Cost.{Follows, costOf}
+use Rattle.problem.specs.Dual.{floorOf, gapOf, shows}
 use Rattle.problem.proofs.Duality.{gap-below-rivals, impossible}
 use Rattle.lent.specs.declared.walk.Check.{Check}
-use Rattle.lent.specs.declared.walk.Check.the-variants.{Passed, Refused}
+use Rattle.lent.specs.declared.walk.Check.the-variants.{Passed, Failed}
+use Rattle.lent.specs.declared.walk.Test.the-variants.{Model, Limits}
 use Rattle.lent.specs.Checks.{orElse, first, limits, meets, stateCheck, stepCheck, planCheck, wrongMultipliers, wrongPlanLength, wrongMultipliersLength}
-use Rattle.lent.proofs.Steps.{both-passed, passed-test, first-each, first-all, limits-within, within-limits}
+use Rattle.lent.proofs.Steps.{both-passed, first-each, first-all, passed-within, within-passed}
 use Rattle.judge.specs.declared.Judged.{Judged}
 use Rattle.judge.specs.declared.Shown.{Shown}
-use Rattle.judge.specs.Judging.{gapWithin, afterCheck, judgedOn, judgedAfterRead, floorAbove, shownOn, shownAfterRead}
+use Rattle.judge.specs.Judging.{gapWithin, afterCheck, judgedOn, judgedAfterRead, shownOn, shownAfterRead}
 use Rattle.judge.specs.Judging as judging
 use Rattle.judge.specs.Demand.{Backed, Founded}
 
 -- ---- A plan that passed follows the tape
 
-meets-model : (S v : ℤ) → meets S v ≡ Passed → v ≡ rounded S
-unfolding meets
-meets-model S v e = let h = in-range (rounded S) (rounded S) v (passed-test (outside (rounded S) (rounded S) v) _ e) in omega (arith, order)
+meets-model : (k i : ℕ) (S v : ℤ) → meets k i S v ≡ Passed → v ≡ rounded S
+meets-model k i S v e = let h = passed-within Model k i (rounded S) (rounded S) v e in omega (arith, order)
 
-model-meets : (S v : ℤ) → v ≡ rounded S → meets S v ≡ Passed
-unfolding meets
-model-meets S v e = rw (not-outside (rounded S) (rounded S) v (omega (arith, order), omega (arith, order)))
+model-meets : (k i : ℕ) (S v : ℤ) → v ≡ rounded S → meets k i S v ≡ Passed
+model-meets k i S v e = within-passed Model k i (rounded S) (rounded S) v (omega (arith, order), omega (arith, order))
 
 module _ (q : Problem) (v : Plan) where
   abbrev inputCheck : ℕ → ℕ → Check
-  inputCheck k j = limits (q .inputTerm k j .low) (q .inputTerm k j .high) (v .u k j)
+  inputCheck k j = limits k (q .n + j) (q .inputTerm k j .low) (q .inputTerm k j .high) (v .u k j)
 
   abbrev stateCheckOf : ℕ → ℕ → Check
-  stateCheckOf k i = stateCheck (sumAt q v k i) (q .stateTerm k i .low) (q .stateTerm k i .high) (v .x k i)
+  stateCheckOf k i = stateCheck k i (sumAt q v k i) (q .stateTerm k i .low) (q .stateTerm k i .high) (v .x k i)
 
   pub follows : planCheck q v ≡ Passed → Follows q v
   unfolding planCheck stepCheck stateCheck
   follows e = record {
-    inputs-within = λ k j h l. limits-within _ _ (v .u k j) (first-each (q .m) (inputCheck k) (step k h .0) j l);
-    states-meet = λ k i h l. meets-model (sumAt q v k i) (v .x k i) (state k i h l .0);
-    states-within = λ k i h l. limits-within _ _ (v .x k i) (state k i h l .1);
+    inputs-within = λ k j h l. passed-within Limits k (q .n + j) _ _ (v .u k j) (first-each (q .m) (inputCheck k) (step k h .0) j l);
+    states-meet = λ k i h l. meets-model k i (sumAt q v k i) (v .x k i) (state k i h l .0);
+    states-within = λ k i h l. passed-within Limits k i _ _ (v .x k i) (state k i h l .1);
   }
     where
       step : (k : ℕ) → k < q .horizon → (first (q .m) (inputCheck k) ≡ Passed) × (first (q .n) (stateCheckOf k) ≡ Passed)
       step k h = both-passed _ _ (first-each (q .horizon) (stepCheck q v) e k h)
 
-      state : (k i : ℕ) → k < q .horizon → i < q .n → (meets (sumAt q v k i) (v .x k i) ≡ Passed) × (limits (q .stateTerm k i .low) (q .stateTerm k i .high) (v .x k i) ≡ Passed)
+      state : (k i : ℕ) → k < q .horizon → i < q .n →
+          (meets k i (sumAt q v k i) (v .x k i) ≡ Passed) × (limits k i (q .stateTerm k i .low) (q .stateTerm k i .high) (v .x k i) ≡ Passed)
       state k i h l = both-passed _ _ (first-each (q .n) (stateCheckOf k) (step k h .1) i l)
 
   -- and a plan that follows the tape passes
@@ -68,9 +67,10 @@ module _ (q : Problem) (v : Plan) where
   unfolding planCheck stepCheck stateCheck
   passes f =
       first-all (q .horizon) (stepCheck q v)
-      (λ k h. ap₂ orElse (first-all (q .m) (inputCheck k) (λ j l. within-limits _ _ (v .u k j) (f .inputs-within k j h l)))
+      (λ k h. ap₂ orElse (first-all (q .m) (inputCheck k) (λ j l. within-passed Limits k (q .n + j) _ _ (v .u k j) (f .inputs-within k j h l)))
       (first-all (q .n) (stateCheckOf k)
-      (λ i l. ap₂ orElse (model-meets (sumAt q v k i) (v .x k i) (f .states-meet k i h l)) (within-limits _ _ (v .x k i) (f .states-within k i h l)))))
+      (λ i l. ap₂ orElse (model-meets k i (sumAt q v k i) (v .x k i) (f .states-meet k i h l))
+      (within-passed Limits k i _ _ (v .x k i) (f .states-within k i h l)))))
 
 -- ---- Judging a plan
 
@@ -78,15 +78,13 @@ module _ (t : Tape) (ok : Legal t) (plan y : List ℤ) where
   abbrev v : Plan
   v = planOf (t .n) (t .m) plan
 
-  abbrev gap : ℤ
-  gap = planCost (problemOf t) v -ℤ floor (problemOf t) (multipliersOf (t .n) y)
-
-  backed-check : (c : Check) → planCheck (problemOf t) v ≡ c → length plan ≡ t .horizon * (t .n + t .m) → Backed (afterCheck c (gapWithin t gap)) t plan y
+  backed-check : (c : Check) → planCheck (problemOf t) v ≡ c → length plan ≡ t .horizon * (t .n + t .m) →
+      Backed (afterCheck c (gapWithin t (costOf t plan) (floorOf t y))) t plan y
   unfolding gapWithin
   backed-check Passed e l =
-      by-test (λ j. Backed j t plan y) (ltZ (t .wanted) gap) (λ _. tt)
+      by-test (λ j. Backed j t plan y) (ltZ (t .wanted) (gapOf t plan y)) (λ _. tt)
       (λ _. record { itself = record { long = l; follows = follows (problemOf t) v e }; reported = refl; bound = λ rival r. gap-below-rivals t ok plan y rival r })
-  backed-check (Refused why) e l = tt
+  backed-check (Failed failure) e l = tt
 
   backed-on : Backed (judgedOn t plan y) t plan y
   unfolding judgedOn
@@ -99,11 +97,11 @@ module _ (t : Tape) (ok : Legal t) (plan y : List ℤ) where
 -- ---- Judging multipliers
 
 founded-on : (t : Tape) (ok : Legal t) (y : List ℤ) → Founded (shownOn t y) t
-unfolding shownOn floorAbove
+unfolding shownOn
 founded-on t ok y =
     by-test (λ j. Founded j t) (wrongMultipliersLength t y) (λ _. tt)
     (λ _. by-test (λ j. Founded j t) (wrongMultipliers y) (λ _. tt)
-    (λ _. by-test (λ j. Founded j t) (ltZ (ceiling (problemOf t)) (floor (problemOf t) (multipliersOf (t .n) y)))
+    (λ _. by-test (λ j. Founded j t) (shows (problemOf t) (multipliersOf (t .n) y))
     (λ e. record { none = λ rival r. impossible t ok y rival e r }) (λ _. tt)))
 
 -- ---- The answers of the calls

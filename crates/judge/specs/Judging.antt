@@ -8,25 +8,33 @@ use Rattle.tape.specs.Reading.{reading}
 use Rattle.tape.specs.declared.Answer.{Answer}
 use Rattle.tape.specs.declared.Answer.the-variants as answer
 use Rattle.tape.specs.declared.Tape.{Tape}
-use Rattle.tape.specs.declared.refusal.Refusal.the-variants.{Length, Multiplier, Wide, NotShown}
+use Rattle.tape.specs.declared.refusal.Refusal.{Refusal}
+use Rattle.tape.specs.declared.refusal.Refusal.the-variants.{Length, OffModel, OverLimit, Multiplier, Wide, NotShown}
 use Rattle.problem.specs.Model.{problemOf, planOf, multipliersOf}
-use Rattle.problem.specs.Cost.{planCost}
-use Rattle.problem.specs.Dual.{floor, ceiling}
+use Rattle.problem.specs.Cost.{costOf}
+use Rattle.problem.specs.Dual.{floorOf, shows}
 use Rattle.lent.specs.declared.walk.Check.{Check}
 use Rattle.lent.specs.declared.walk.Check.the-variants as check
+use Rattle.lent.specs.declared.walk.Test.{Test}
+use Rattle.lent.specs.declared.walk.Test.the-variants as test
 use Rattle.lent.specs.Checks.{wrongPlanLength, wrongMultipliersLength, wrongMultipliers, planCheck}
 use Rattle.judge.specs.declared.Judged.{Judged}
 use Rattle.judge.specs.declared.Judged.the-variants.{Gap, Refused}
 use Rattle.judge.specs.declared.Shown.{Shown}
 use Rattle.judge.specs.declared.Shown.the-variants as answers
 
--- 13: the gap is above T
-unfoldable pub gapWithin : Tape → ℤ → Judged
-gapWithin t gap = cond (ltZ (t .wanted) gap) (Refused Wide) (Gap gap)
+-- 13: the gap, cost minus floor, is above T
+unfoldable pub gapWithin : Tape → ℤ → ℤ → Judged
+gapWithin t cost floor = cond (ltZ (t .wanted) (cost -ℤ floor)) (Refused Wide) (Gap (cost -ℤ floor))
+
+-- 10 and 11
+abbrev pub refusalOf : Test → Refusal
+refusalOf test.Model = OffModel
+refusalOf test.Limits = OverLimit
 
 abbrev pub afterCheck : Check → Judged → Judged
 afterCheck check.Passed passed = passed
-afterCheck (check.Refused why) passed = Refused why
+afterCheck (check.Failed failure) passed = Refused (refusalOf (failure .test))
 
 -- 9, 12, the plan, 13
 unfoldable pub judgedOn : Tape → List ℤ → List ℤ → Judged
@@ -34,7 +42,7 @@ judgedOn t plan y =
     cond (wrongPlanLength t plan || wrongMultipliersLength t y) (Refused Length)
     (cond (wrongMultipliers y) (Refused Multiplier)
     (afterCheck (planCheck (problemOf t) (planOf (t .n) (t .m) plan))
-    (gapWithin t (planCost (problemOf t) (planOf (t .n) (t .m) plan) -ℤ floor (problemOf t) (multipliersOf (t .n) y)))))
+    (gapWithin t (costOf t plan) (floorOf t y))))
 
 abbrev pub judgedAfterRead : Answer → Judged → Judged
 judgedAfterRead answer.Accepted accepted = accepted
@@ -43,16 +51,12 @@ judgedAfterRead (answer.Refused why) accepted = Refused why
 unfoldable pub judged : List ℕ → List ℤ → List ℤ → Judged
 judged s plan y = judgedAfterRead (reading s .answer) (judgedOn (reading s .tape) plan y)
 
--- 14: the floor is not above the ceiling
-unfoldable pub floorAbove : Tape → ℤ → Shown
-floorAbove t floor = cond (ltZ (ceiling (problemOf t)) floor) answers.Shown (answers.Refused NotShown)
-
 -- 9, 12, 14
 unfoldable pub shownOn : Tape → List ℤ → Shown
 shownOn t y =
     cond (wrongMultipliersLength t y) (answers.Refused Length)
     (cond (wrongMultipliers y) (answers.Refused Multiplier)
-    (floorAbove t (floor (problemOf t) (multipliersOf (t .n) y))))
+    (cond (shows (problemOf t) (multipliersOf (t .n) y)) answers.Shown (answers.Refused NotShown)))
 
 abbrev pub shownAfterRead : Answer → Shown → Shown
 shownAfterRead answer.Accepted accepted = accepted

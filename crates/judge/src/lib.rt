@@ -1,22 +1,23 @@
 // Judging a plan with multipliers, and multipliers for impossibility.
 ghost use mathlib.Core.Path.{_≡_};
-ghost use lib.IntN.{_-ℤ_};
 ghost use Rattle.integer.specs.Places.{Bounded};
 ghost use Rattle.commands.specs.Ranges.{mostNumber, mostMultiplier};
 ghost use Rattle.tape.specs.Legal.{Legal};
 ghost use Rattle.tape.specs.Reading.{reading};
 ghost use Rattle.problem.specs.Model.{problemOf};
 ghost use Rattle.problem.specs.Cost.{planCost};
-ghost use Rattle.problem.specs.Dual.{floor};
+ghost use Rattle.problem.specs.Dual.{floor, shows};
 ghost use Rattle.primal.specs.Padded.{padded, paddedPlan};
 ghost use Rattle.primal.specs.Terms.{TermsOf};
 ghost use Rattle.primal.specs.Held.{BlankPlan, BlankMultipliers};
-ghost use Rattle.judge.specs.Judging.{gapWithin, judgedOn, judged, floorAbove, shownOn, shown};
+ghost use Rattle.judge.specs.Judging.{gapWithin, judgedOn, judged, shownOn, shown, refusalOf};
 ghost use Rattle.judge.specs.Demand.{Backed, Founded};
 use dual::floor::floor_of;
 use lent::multipliers::is_any_outside;
 use lent::multipliers::padded_multipliers;
 use lent::walk::Check;
+use lent::walk::Failure;
+use lent::walk::Test;
 use lent::walk::checked_plan;
 use primal::cost::ceiling_of;
 use primal::cost::plan_cost;
@@ -73,7 +74,18 @@ fn judge_on(t: Tape, plan: &[i32], multipliers: &[i32]) -> Judged
     let check = walk.check;
     match check {
         Check::Passed => judge_gap(t, terms, v, y),
-        Check::Refused(why) => Judged::Refused(why),
+        Check::Failed(failure) => Judged::Refused(refusal_of(failure)),
+    }
+}
+
+// The refusal of a plan that fails a test: it carries nothing of what was found.
+fn refusal_of(failure: Failure) -> Refusal
+    ensures { λ r. ⌜ r ≡ refusalOf (failure .test) ⌝ }
+{
+    let test = failure.test;
+    match test {
+        Test::Model => Refusal::OffModel,
+        Test::Limits => Refusal::OverLimit,
     }
 }
 
@@ -81,7 +93,7 @@ fn judge_on(t: Tape, plan: &[i32], multipliers: &[i32]) -> Judged
 fn judge_gap(t: Tape, terms: Terms, v: [i64; 120], y: [i64; 72]) -> Judged
     requires { ⌜ Legal t × TermsOf t (terms .penalty) (terms .low) (terms .high) (terms .reference) ⌝ }
     requires { ⌜ Bounded mostNumber v × BlankPlan (t .n) (t .m) v × Bounded mostMultiplier y × BlankMultipliers (t .n) y ⌝ }
-    ensures { λ r. ⌜ r ≡ gapWithin t (planCost (problemOf t) (paddedPlan v) -ℤ floor (problemOf t) (padded y)) ⌝ }
+    ensures { λ r. ⌜ r ≡ gapWithin t (planCost (problemOf t) (paddedPlan v)) (floor (problemOf t) (padded y)) ⌝ }
 {
     let horizon = t.horizon;
     let cost = plan_cost(
@@ -92,7 +104,22 @@ fn judge_gap(t: Tape, terms: Terms, v: [i64; 120], y: [i64; 72]) -> Judged
         &v,
         horizon,
     );
-    let floor = floor_of(
+    let floor = tape_floor(t, terms, y);
+    let gap = cost - floor;
+    if t.wanted < gap {
+        return Judged::Refused(Refusal::Wide);
+    }
+    Judged::Gap(gap)
+}
+
+// The floor under all plans of a tape.
+fn tape_floor(t: Tape, terms: Terms, y: [i64; 72]) -> i64
+    requires { ⌜ Legal t × TermsOf t (terms .penalty) (terms .low) (terms .high) (terms .reference) ⌝ }
+    requires { ⌜ Bounded mostMultiplier y × BlankMultipliers (t .n) y ⌝ }
+    ensures { λ r. ⌜ r ≡ floor (problemOf t) (padded y) ⌝ }
+{
+    let horizon = t.horizon;
+    floor_of(
         &t.a,
         &t.b,
         &t.drift,
@@ -103,12 +130,7 @@ fn judge_gap(t: Tape, terms: Terms, v: [i64; 120], y: [i64; 72]) -> Judged
         &terms.reference,
         &y,
         horizon,
-    );
-    let gap = cost - floor;
-    if t.wanted < gap {
-        return Judged::Refused(Refusal::Wide);
-    }
-    Judged::Gap(gap)
+    )
 }
 
 // Judges multipliers for impossibility.
@@ -138,14 +160,17 @@ fn show_on(t: Tape, multipliers: &[i32]) -> Shown
     }
     let y = padded_multipliers(multipliers, n, horizon);
     let terms = terms_of(t);
-    show_floor(t, terms, y)
+    if is_shown(t, terms, y) {
+        return Shown::Shown;
+    }
+    Shown::Refused(Refusal::NotShown)
 }
 
-// The floor, held against the ceiling.
-fn show_floor(t: Tape, terms: Terms, y: [i64; 72]) -> Shown
+// Whether the floor exceeds the ceiling.
+fn is_shown(t: Tape, terms: Terms, y: [i64; 72]) -> bool
     requires { ⌜ Legal t × TermsOf t (terms .penalty) (terms .low) (terms .high) (terms .reference) ⌝ }
     requires { ⌜ Bounded mostMultiplier y × BlankMultipliers (t .n) y ⌝ }
-    ensures { λ r. ⌜ r ≡ floorAbove t (floor (problemOf t) (padded y)) ⌝ }
+    ensures { λ r. ⌜ r ≡ shows (problemOf t) (padded y) ⌝ }
 {
     let horizon = t.horizon;
     let ceiling = ceiling_of(
@@ -155,20 +180,6 @@ fn show_floor(t: Tape, terms: Terms, y: [i64; 72]) -> Shown
         &terms.reference,
         horizon,
     );
-    let floor = floor_of(
-        &t.a,
-        &t.b,
-        &t.drift,
-        &t.start,
-        &terms.penalty,
-        &terms.low,
-        &terms.high,
-        &terms.reference,
-        &y,
-        horizon,
-    );
-    if ceiling < floor {
-        return Shown::Shown;
-    }
-    Shown::Refused(Refusal::NotShown)
+    let floor = tape_floor(t, terms, y);
+    ceiling < floor
 }

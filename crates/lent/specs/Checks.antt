@@ -5,14 +5,16 @@ use mathlib.Core.List.{List}
 use lib.Dec.{eqb}
 use lib.ListN.{length}
 use lib.IntN.{ℤ, pos, negℤ}
+use lib.Signed.{ltZ}
 use Rattle.integer.specs.Places.{at}
 use Rattle.integer.specs.Tests.{outside, any}
 use Rattle.commands.specs.Ranges.{mostMultiplier}
 use Rattle.tape.specs.declared.Tape.{Tape}
-use Rattle.tape.specs.declared.refusal.Refusal.the-variants.{OffModel, OverLimit}
 use Rattle.problem.specs.Model.{Problem, Plan, sumAt, rounded}
 use Rattle.lent.specs.declared.walk.Check.{Check}
-use Rattle.lent.specs.declared.walk.Check.the-variants.{Passed, Refused}
+use Rattle.lent.specs.declared.walk.Check.the-variants.{Passed, Failed}
+use Rattle.lent.specs.declared.walk.Test.{Test}
+use Rattle.lent.specs.declared.walk.Test.the-variants.{Model, Limits}
 
 -- ---- Lengths
 
@@ -32,30 +34,38 @@ wrongMultipliers y = any (length y) (λ p. outside (negℤ (pos mostMultiplier))
 
 abbrev pub orElse : Check → Check → Check
 orElse Passed c = c
-orElse (Refused why) c = Refused why
+orElse (Failed failure) c = Failed failure
 
--- the first refusal of f 0, f 1, .. below count
+-- the first failure of f 0, f 1, .. below count
 unfoldable pub first : ℕ → (ℕ → Check) → Check
 first zero f = Passed
 first (suc count) f = orElse (first count f) (f count)
 
+-- a test of the number v, of step k and column c, where `due` was due
+abbrev pub failed : Test → ℕ → ℕ → ℤ → ℤ → Check
+failed test k c v due = Failed (record { test = test; step = k; column = c; found = v; due = due })
+
+-- whether v lies in lo to hi; lo was due where it is below, hi where it is above
+unfoldable pub tested : Test → ℕ → ℕ → ℤ → ℤ → ℤ → Check
+tested test k c lo hi v = cond (ltZ v lo) (failed test k c v lo) (cond (ltZ hi v) (failed test k c v hi) Passed)
+
 -- 11: v is outside lo to hi
-unfoldable pub limits : ℤ → ℤ → ℤ → Check
-limits lo hi v = cond (outside lo hi v) (Refused OverLimit) Passed
+abbrev pub limits : ℕ → ℕ → ℤ → ℤ → ℤ → Check
+limits = tested Limits
 
 -- 10: v differs from the state that S gives, which is to say that it is outside that one number
-unfoldable pub meets : ℤ → ℤ → Check
-meets S v = cond (outside (rounded S) (rounded S) v) (Refused OffModel) Passed
+abbrev pub meets : ℕ → ℕ → ℤ → ℤ → Check
+meets k i S v = tested Model k i (rounded S) (rounded S) v
 
--- a state: 10 before 11
-unfoldable pub stateCheck : ℤ → ℤ → ℤ → ℤ → Check
-stateCheck S lo hi v = orElse (meets S v) (limits lo hi v)
+-- state i of step k: 10 before 11
+unfoldable pub stateCheck : ℕ → ℕ → ℤ → ℤ → ℤ → ℤ → Check
+stateCheck k i S lo hi v = orElse (meets k i S v) (limits k i lo hi v)
 
 -- a step: its inputs, then its states
 unfoldable pub stepCheck : Problem → Plan → ℕ → Check
 stepCheck q v k =
-    orElse (first (q .m) (λ j. limits (q .inputTerm k j .low) (q .inputTerm k j .high) (v .u k j)))
-    (first (q .n) (λ i. stateCheck (sumAt q v k i) (q .stateTerm k i .low) (q .stateTerm k i .high) (v .x k i)))
+    orElse (first (q .m) (λ j. limits k (q .n + j) (q .inputTerm k j .low) (q .inputTerm k j .high) (v .u k j)))
+    (first (q .n) (λ i. stateCheck k i (sumAt q v k i) (q .stateTerm k i .low) (q .stateTerm k i .high) (v .x k i)))
 
 unfoldable pub planCheck : Problem → Plan → Check
 planCheck q v = first (q .horizon) (stepCheck q v)

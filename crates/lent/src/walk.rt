@@ -11,18 +11,33 @@ ghost use Rattle.primal.specs.Padded.{stateMatrix, inputMatrix, paddedPlan};
 ghost use Rattle.primal.specs.Terms.{TermsOf};
 ghost use Rattle.primal.specs.Held.{HeldPlan};
 ghost use Rattle.primal.specs.Ranges.{mostForcing};
-ghost use Rattle.lent.specs.Checks.{first, limits, stateCheck, stepCheck, planCheck};
+ghost use Rattle.lent.specs.Checks.{first, limits, stateCheck, stepCheck, planCheck, failed, tested};
 use primal::model::model_sum;
 use primal::model::state_of;
 use primal::terms::Terms;
 ghost use Rattle.lent.specs.Held.{FilledWhenPassed, HeldWhenPassed};
 use integer::number::is_outside;
 use tape::Tape;
-use tape::refusal::Refusal;
+
+// The tests of a plan's number: 10, against the model, and 11, against its limits.
+pub enum Test {
+    Model,
+    Limits,
+}
+
+// What a test found: the number of a step and a column, and what was due there, the model's number
+// or the limit that it passed. x(k+1) is of step k; columns are states, then inputs.
+pub struct Failure {
+    pub test: Test,
+    pub step: usize,
+    pub column: usize,
+    pub found: i64,
+    pub due: i64,
+}
 
 pub enum Check {
     Passed,
-    Refused(Refusal),
+    Failed(Failure),
 }
 
 // The plan's numbers at padded places, where the check passed.
@@ -31,45 +46,75 @@ pub struct Walk {
     pub plan: [i64; 120],
 }
 
-// The m inputs of step k, which stand in the plan from a place on.
+// A test of step k and a column found x where `due` was due.
+fn fail(test: Test, k: usize, column: usize, x: i64, due: i64) -> Check
+    ensures { λ r. ⌜ r ≡ failed test k column x due ⌝ }
+{
+    Check::Failed(Failure {
+        test: test,
+        step: k,
+        column: column,
+        found: x,
+        due: due,
+    })
+}
+
+// Whether x lies in low to high: a test of step k and a column.
+fn check_number(test: Test, k: usize, column: usize, low: i64, high: i64, x: i64) -> Check
+    ensures { λ r. ⌜ r ≡ tested test k column low high x ⌝ }
+{
+    if x < low {
+        return fail(test, k, column, x, low);
+    }
+    if high < x {
+        return fail(test, k, column, x, high);
+    }
+    Check::Passed
+}
+
+// The m inputs of step k, which stand in the plan from a place on. Their columns are those from n on.
 fn check_inputs<'a>(
     v: &mut [i64; 120],
     plan: &'a [i32],
     low: &'a [i64; 120],
     high: &'a [i64; 120],
     from: usize,
+    n: usize,
     m: usize,
     k: usize,
 ) -> Check
-    requires { ⌜ (k < 12) × (m ≤ 4) × (from + m ≤ length (now plan)) × (length (now v) ≡ 120) ⌝ }
-    ensures { λ r. ⌜ r ≡ first m (λ j. limits (at (now (low .entry)) (10 * k + j)) (at (now (high .entry)) (10 * k + j)) (at (now (plan .entry)) (from + j))) ⌝ }
+    requires { ⌜ (k < 12) × (n ≤ 6) × (m ≤ 4) × (from + m ≤ length (now plan)) × (length (now v) ≡ 120) ⌝ }
+    ensures { λ r. ⌜ r ≡ first m (λ j. limits k (n + j) (at (now (low .entry)) (10 * k + j)) (at (now (high .entry)) (10 * k + j)) (at (now (plan .entry)) (from + j))) ⌝ }
     ensures { λ r. ⌜ FilledWhenPassed r (10 * k) m (λ j. at (now (plan .entry)) (from + j)) (now (v .entry)) (now (v .exit)) ⌝ }
 {
     let mut j: usize = 0;
     while j < m {
         let x = plan[from + j] as i64;
-        if is_outside(x, low[10 * k + j], high[10 * k + j]) {
-            return Check::Refused(Refusal::OverLimit);
+        let check = check_number(Test::Limits, k, n + j, low[10 * k + j], high[10 * k + j], x);
+        match check {
+            Check::Passed => {
+                v[10 * k + j] = x;
+            }
+            Check::Failed(failure) => {
+                return Check::Failed(failure);
+            }
         }
-        v[10 * k + j] = x;
         j += 1;
     }
     Check::Passed
 }
 
-// A state x against S and its limits.
-fn check_state(s: i64, low: i64, high: i64, x: i64) -> Check
+// State i of step k: x against the number that S gives, then against its limits.
+fn check_state(k: usize, i: usize, s: i64, low: i64, high: i64, x: i64) -> Check
     requires { ⌜ natAbs s < 2 ^ 40 ⌝ }
-    ensures { λ r. ⌜ r ≡ stateCheck s low high x ⌝ }
+    ensures { λ r. ⌜ r ≡ stateCheck k i s low high x ⌝ }
 {
     let expected = state_of(s);
-    if is_outside(x, expected, expected) {
-        return Check::Refused(Refusal::OffModel);
+    let model = check_number(Test::Model, k, i, expected, expected, x);
+    match model {
+        Check::Passed => check_number(Test::Limits, k, i, low, high, x),
+        Check::Failed(failure) => Check::Failed(failure),
     }
-    if is_outside(x, low, high) {
-        return Check::Refused(Refusal::OverLimit);
-    }
-    Check::Passed
 }
 
 // The n states of step k, which stand in the plan from a place on.
@@ -88,7 +133,7 @@ fn check_states<'a>(
 ) -> Check
     requires { ⌜ (k < 12) × (n ≤ 6) × (from + n ≤ length (now plan)) × (length (now v) ≡ 120) × Bounded mostNumber (now v) ⌝ }
     requires { ⌜ Bounded mostEntry (now a) × Bounded mostEntry (now b) × Bounded mostForcing (now drift) × Bounded mostNumber (now start) × Bounded mostNumber (now low) × Bounded mostNumber (now high) ⌝ }
-    ensures { λ r. ⌜ r ≡ first n (λ i. stateCheck
+    ensures { λ r. ⌜ r ≡ first n (λ i. stateCheck k i
         (modelSum 6 4 (stateMatrix (now (a .entry))) (inputMatrix (now (b .entry))) (at (now (drift .entry)))
         (stateAt (at (now (start .entry))) (paddedPlan (now (v .entry)) .x) k) (paddedPlan (now (v .entry)) .u k) i)
         (at (now (low .entry)) (10 * k + (4 + i))) (at (now (high .entry)) (10 * k + (4 + i))) (at (now (plan .entry)) (from + i))) ⌝ }
@@ -98,13 +143,13 @@ fn check_states<'a>(
     while i < n {
         let s = model_sum(a, b, drift, start, v, k, i);
         let x = plan[from + i] as i64;
-        let check = check_state(s, low[10 * k + (4 + i)], high[10 * k + (4 + i)], x);
+        let check = check_state(k, i, s, low[10 * k + (4 + i)], high[10 * k + (4 + i)], x);
         match check {
             Check::Passed => {
                 v[10 * k + 4 + i] = x;
             }
-            Check::Refused(why) => {
-                return Check::Refused(why);
+            Check::Failed(failure) => {
+                return Check::Failed(failure);
             }
         }
         i += 1;
@@ -123,7 +168,7 @@ fn check_step(t: Tape, terms: Terms, plan: &[i32], v: [i64; 120], k: usize) -> W
     let m = t.m;
     let from = k * (n + m);
     let mut w = v;
-    let inputs = check_inputs(&mut w, plan, &terms.low, &terms.high, from, m, k);
+    let inputs = check_inputs(&mut w, plan, &terms.low, &terms.high, from, n, m, k);
     match inputs {
         Check::Passed => {
             let states = check_states(
@@ -144,8 +189,8 @@ fn check_step(t: Tape, terms: Terms, plan: &[i32], v: [i64; 120], k: usize) -> W
                 plan: w,
             }
         }
-        Check::Refused(why) => Walk {
-            check: Check::Refused(why),
+        Check::Failed(failure) => Walk {
+            check: Check::Failed(failure),
             plan: w,
         },
     }
@@ -166,9 +211,9 @@ pub fn checked_plan(t: Tape, terms: Terms, plan: &[i32]) -> Walk
         let check = walk.check;
         match check {
             Check::Passed => {}
-            Check::Refused(why) => {
+            Check::Failed(failure) => {
                 return Walk {
-                    check: Check::Refused(why),
+                    check: Check::Failed(failure),
                     plan: v,
                 };
             }

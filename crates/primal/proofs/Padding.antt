@@ -43,7 +43,7 @@ paddedTape t = paddedProblem (t .horizon) (t .a) (t .b) (t .drift) (t .start)
 
 module _ (t : Tape) (legal : Legal t) (penalty low high reference : List ℤ) (terms : TermsOf t penalty low high reference) where
   -- without the model, which costs and the ceiling do not ask for
-  abbrev paddedTerms : Problem
+  abbrev pub paddedTerms : Problem
   paddedTerms = paddedProblem (t .horizon) [] [] [] [] penalty low high reference
 
   -- over a whole plan; for costs, pieces and `most` the first premise holds by computing

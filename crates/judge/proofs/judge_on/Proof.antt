@@ -1,17 +1,16 @@
-use mathlib.Core.Path.{_≡_, sym, _∙_, ap₂}
+use mathlib.Core.Path.{_≡_, sym, _∙_, ap}
 use mathlib.Core.Bool.{false}
 use native.Mathlib.Omega.{arith}
 use borrow.Author.Needs.{needs}
 use borrow.Author.Tests.{eq-eqb, ne-eqb}
 use Prim.Native.Nat.{_+_}
-use lib.IntN.{ℤ, _-ℤ_}
 use Rattle.problem.specs.Model.{problemOf, planOf}
 use Rattle.primal.specs.Held.{HeldPlan}
 use Rattle.primal.proofs.Lengths.{count-fits}
 use Rattle.primal.proofs.Held.{floor-held, cost-held}
-use Rattle.lent.specs.declared.walk.Check.the-variants.{Passed}
 use Rattle.lent.specs.Checks.{wrongMultipliers, planCheck}
-use Rattle.judge.specs.Judging.{gapWithin, judgedOn}
+use Rattle.judge.specs.declared.Judged.the-variants.{Refused}
+use Rattle.judge.specs.Judging.{judgedOn}
 use Rattle.judge.proofs.judge_on.Statement.{statement}
 use Rattle.judge.proofs.judge_on.Tie as tie
 
@@ -25,10 +24,11 @@ start c = c .before .before .before .before
 in-range : (c : tie.Else3) → wrongMultipliers (start c .args .multipliers .now) ≡ false
 in-range c = sym (c .before .is-any-outside .ensures) ∙ c .if3 .left
 
-passed : (c : tie.After-enum-told) →
-    let a = start (tested (c .before .before)) .args in
-    planCheck (problemOf (a .t)) (planOf (a .t .n) (a .t .m) (a .plan .now)) ≡ Passed
-passed c = sym (c .before .before .before .checked-plan .ensures .0) ∙ c .enum-told .given .1
+-- what the tests of the plan answered
+check-is : (c : tie.After-checked-plan) →
+    let a = start (c .before .before .before) .args in
+    planCheck (problemOf (a .t)) (planOf (a .t .n) (a .t .m) (a .plan .now)) ≡ c .checked-plan .result .check
+check-is c = sym (c .checked-plan .ensures .0)
 
 held : (c : tie.After-enum-told) →
     let a = start (tested (c .before .before)) .args in
@@ -85,29 +85,37 @@ judge-gap-requires c κs =
 enum-known-check : tie.Need-enum-known-check
 enum-known-check c = search needs
 
+refusal-of-requires : tie.Need-refusal-of-requires
+refusal-of-requires c κs = search needs
+
 returns-4 : tie.Need-returns-4
 unfolding judgedOn
 returns-4 c =
     let e = c .before in
-    let q = tested (e .before .before) in
+    let p = e .before .before in
+    let q = tested p in
     let s = start q in
     let t = s .args .t in
-    rw (eq-eqb _ _ (q .before .before .before .if1 .left), eq-eqb _ _ (q .before .before .if2 .left), in-range q, passed e)
-    (c .judge-gap .ensures
-    ∙ ap₂ (λ (k f : ℤ). gapWithin t (k -ℤ f)) (cost-held t (s .pre) (held e))
-    (floor-held t (s .pre) (e .before .before .before .before .before .padded-multipliers .ensures)))
+    rw (
+      eq-eqb _ _ (q .before .before .before .if1 .left),
+      eq-eqb _ _ (q .before .before .if2 .left),
+      in-range q,
+      check-is (p .before) ∙ e .enum-told .given .1,
+      ← cost-held t (s .pre) (held e),
+      ← floor-held t (s .pre) (p .before .before .before .padded-multipliers .ensures),
+    ) (c .judge-gap .ensures)
 
 returns-5 : tie.Need-returns-5
 unfolding judgedOn
 returns-5 c =
-    let p = c .before .before .before in
+    let p = c .before .before .before .before in
     let q = tested p in
     rw (
       eq-eqb _ _ (q .before .before .before .if1 .left),
       eq-eqb _ _ (q .before .before .if2 .left),
       in-range q,
-      sym (p .before .checked-plan .ensures .0) ∙ c .before .check .given .1,
-    )
+      check-is (p .before) ∙ c .before .before .check .given .1,
+    ) (ap Refused (c .refusal-of .ensures))
 
 pub judge-on-spec : {M : Type 1} → statement M
 judge-on-spec =
@@ -126,5 +134,6 @@ judge-on-spec =
     enum-told
     judge-gap-requires
     enum-known-check
+    refusal-of-requires
     returns-4
     returns-5)

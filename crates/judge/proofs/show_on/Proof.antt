@@ -3,10 +3,13 @@ use mathlib.Core.Bool.{false}
 use native.Mathlib.Omega.{arith}
 use borrow.Author.Needs.{needs}
 use borrow.Author.Tests.{eq-eqb, ne-eqb}
+use Rattle.problem.specs.Model.{problemOf, multipliersOf}
+use Rattle.problem.specs.Dual.{ceiling, shows}
+use lib.Signed.{ltZ}
 use Rattle.primal.proofs.Lengths.{count-fits}
 use Rattle.primal.proofs.Held.{floor-held}
 use Rattle.lent.specs.Checks.{wrongMultipliers}
-use Rattle.judge.specs.Judging.{floorAbove, shownOn}
+use Rattle.judge.specs.Judging.{shownOn}
 use Rattle.judge.proofs.show_on.Statement.{statement}
 use Rattle.judge.proofs.show_on.Tie as tie
 
@@ -34,18 +37,29 @@ padded-multipliers-requires c κs = let l = c .before .before .before .pre in (l
 terms-of-requires : tie.Need-terms-of-requires
 terms-of-requires c κs = search needs
 
-show-floor-requires : tie.Need-show-floor-requires
-show-floor-requires c κs =
-    let h = c .before .padded-multipliers .ensures in
-    ((c .before .before .before .before .before .pre, c .terms-of .ensures), (h .bounded, h .blank))
+is-shown-requires : tie.Need-is-shown-requires
+is-shown-requires c κs = search needs
+
+-- what the padded multipliers show, the lent ones do
+shown-is : (c : tie.After-is-shown) →
+    let s = c .before .before .before .before .before .before in
+    c .is-shown .result ≡ shows (problemOf (s .args .t)) (multipliersOf (s .args .t .n) (s .args .multipliers .now))
+shown-is c =
+    let s = c .before .before .before .before .before .before in
+    let t = s .args .t in
+    c .is-shown .ensures ∙ ap (ltZ (ceiling (problemOf t))) (floor-held t (s .pre) (c .before .before .padded-multipliers .ensures))
 
 returns-3 : tie.Need-returns-3
 unfolding shownOn
 returns-3 c =
-    let s = c .before .before .before .before .before .before in
-    let y = c .before .before .padded-multipliers in
-    rw (eq-eqb _ _ (c .before .before .before .before .before .if1 .left), in-range (c .before .before .before))
-    (c .show-floor .ensures ∙ ap (floorAbove (s .args .t)) (floor-held (s .args .t) (s .pre) (y .ensures)))
+    let p = c .before .before .before .before in
+    rw (eq-eqb _ _ (p .before .before .if1 .left), in-range p, sym (shown-is (c .before)) ∙ c .if3 .taken)
+
+returns-4 : tie.Need-returns-4
+unfolding shownOn
+returns-4 c =
+    let p = c .before .before .before .before in
+    rw (eq-eqb _ _ (p .before .before .if1 .left), in-range p, sym (shown-is (c .before)) ∙ c .if3 .left)
 
 pub show-on-spec : {M : Type 1} → statement M
 show-on-spec =
@@ -57,5 +71,6 @@ show-on-spec =
     returns-2
     padded-multipliers-requires
     terms-of-requires
-    show-floor-requires
-    returns-3)
+    is-shown-requires
+    returns-3
+    returns-4)

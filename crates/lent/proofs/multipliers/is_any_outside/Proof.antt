@@ -5,10 +5,12 @@ use native.Mathlib.Omega.{arith}
 use lib.ListN.{length}
 use lib.IntN.{ℤ, pos, negℤ}
 use denote.Ref.{now}
+use mir.Syntax.{w32}
+use mir.Val.{toZ, ofZ}
 use borrow.Author.Needs.{needs}
 use Rattle.integer.specs.Places.{at}
 use Rattle.integer.specs.Tests.{outside, any}
-use Rattle.integer.proofs.Sizes.{widened}
+use Rattle.integer.proofs.Sizes.{back, widened}
 use Rattle.integer.proofs.Tests.{any-at, any-more}
 use Rattle.commands.specs.Ranges.{mostMultiplier}
 use Rattle.lent.proofs.multipliers.is_any_outside.Statement.{statement}
@@ -43,11 +45,18 @@ cast-is-outside c = widened (read c) (c .is-outside-arg .given) .fits
 is-outside-requires : tie.Need-is-outside-requires Inv-loop μ-loop
 is-outside-requires c κs = search needs
 
-test-is : (c : tie.After-is-outside Inv-loop μ-loop) → wrong (read (c .before)) ≡ c .is-outside .result
-test-is c = sym (c .is-outside .ensures ∙ ap wrong (widened _ (c .before .is-outside-arg .given) .is))
+-- the multiplier as it is tested, which is the one read
+abbrev widenedRead : tie.After-is-outside-arg Inv-loop μ-loop → ℤ
+widenedRead c = back (toZ w32 (ofZ w32 (read c)))
+
+widened-is : (c : tie.After-is-outside-arg Inv-loop μ-loop) → wrong (widenedRead c) ≡ wrong (read c)
+widened-is c = ap wrong (widened (read c) (c .is-outside-arg .given) .is)
 
 returns : tie.Need-returns Inv-loop μ-loop
-returns c = sym (any-at _ _ _ (c .before .before .before .loop-test .taken) (test-is (c .before) ∙ c .if1 .taken))
+returns c =
+    let t = c .before in
+    let test : t .is-outside .result ≡ wrong (read (t .before)) = _∙_ {b = wrong (widenedRead (t .before))} (t .is-outside .ensures) (widened-is (t .before)) in
+    sym (any-at _ _ _ (t .before .before .loop-test .taken) (sym test ∙ c .if1 .taken))
 
 add-p : tie.Need-add-p Inv-loop μ-loop
 add-p c = search needs
@@ -56,7 +65,10 @@ loop-less : tie.Need-loop-less Inv-loop μ-loop
 loop-less c = search needs
 
 loop-again : tie.Need-loop-again Inv-loop μ-loop
-loop-again c = (omega arith, any-more _ _ (c .before .before .before .before .loop .inv .1) (test-is (c .before) ∙ c .if1 .left))
+loop-again c =
+    let t = c .before in
+    let test : t .is-outside .result ≡ wrong (read (t .before)) = _∙_ {b = wrong (widenedRead (t .before))} (t .is-outside .ensures) (widened-is (t .before)) in
+    (omega arith, any-more _ _ (t .before .before .before .loop .inv .1) (sym test ∙ c .if1 .left))
 
 returns-2 : tie.Need-returns-2 Inv-loop μ-loop
 returns-2 c =

@@ -14,7 +14,7 @@ use Rattle.primal.proofs.ModelSizes.{modelAt, size-model}
 use Rattle.primal.proofs.HeldSteps.{model-kept}
 use Rattle.lent.specs.declared.walk.Check.the-variants.{Passed}
 use Rattle.lent.specs.Checks.{first, stateCheck}
-use Rattle.lent.proofs.Steps.{first-none, first-passed, first-refused, first-each, state-size, stateCheckAt}
+use Rattle.lent.proofs.Steps.{first-none, first-passed, first-failed, first-each, state-size, stateCheckAt}
 use Rattle.lent.proofs.walk.check_states.Statement.{statement}
 use Rattle.lent.proofs.walk.check_states.Tie as tie
 
@@ -37,7 +37,7 @@ bounded c =
     stretch-bounded (p .0 .4)
     (λ j h. let q = 10 * a .k + (4 + j) in
     let e = first-each (l .i) _ (l .inv .1) j h in
-    state-size _ (at (now (a .low)) q) (at (now (a .high)) q) (at (now (a .plan)) (a .from + j)) (p .1 .4 .each q) (p .1 .5 .each q) e)
+    state-size (a .k) j _ (at (now (a .low)) q) (at (now (a .high)) q) (at (now (a .plan)) (a .from + j)) (p .1 .4 .each q) (p .1 .5 .each q) e)
     (l .inv .2)
 
 model-sum-requires : tie.Need-model-sum-requires Inv-loop μ-loop
@@ -72,7 +72,9 @@ model-is c =
     let a = c .before .before .before .before .args in
     let l = c .before .before .before .loop in
     let f = c .model-sum in
-    called (f .result) (f .ok) ∙ f .ensures ∙ model-kept (now (a .a)) (now (a .b)) (now (a .drift)) (now (a .start)) (a .k) (l .i) (l .i) (l .inv .2)
+    _∙_ {b = f .result} (called (f .result) (f .ok))
+    (_∙_ {b = modelAt (now (a .a)) (now (a .b)) (now (a .drift)) (now (a .start)) (l .v) (a .k) (l .i)} (f .ensures)
+    (model-kept (now (a .a)) (now (a .b)) (now (a .drift)) (now (a .start)) (a .k) (l .i) (l .i) (l .inv .2)))
 
 cast-x : tie.Need-cast-x Inv-loop μ-loop
 cast-x c = x-is c .fits
@@ -119,7 +121,7 @@ tested : (c : tie.After-check-state Inv-loop μ-loop) →
     let turn = c .before .before .before .before .before .before in
     let a = turn .before .before .args in
     let q = 10 * a .k + (4 + turn .before .loop .i) in
-    stateCheck (model turn) (at (now (a .low)) q) (at (now (a .high)) q) (number turn) ≡ c .check-state .result
+    stateCheck (a .k) (turn .before .loop .i) (model turn) (at (now (a .low)) q) (at (now (a .high)) q) (number turn) ≡ c .check-state .result
 tested c =
     let x = c .before .before .before in
     let turn = x .before .before .before in
@@ -158,7 +160,7 @@ returns : tie.Need-returns Inv-loop μ-loop
 returns c =
     let t = c .before .before .before in
     let l = t .before .before .before .before .before .before .before .loop in
-    (sym (first-refused (l .i) _ _ (omega arith) (l .inv .1) (tested t ∙ c .before .check .given .1)), tt)
+    (sym (first-failed (l .i) _ _ (omega arith) (l .inv .1) (tested t ∙ c .before .check .given .1)), tt)
 
 add-i : tie.Need-add-i Inv-loop μ-loop
 add-i c = search needs

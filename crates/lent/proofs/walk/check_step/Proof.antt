@@ -9,7 +9,7 @@ use Rattle.integer.proofs.Sizes.{wider}
 use Rattle.integer.proofs.Places.{step-room, all-bounded}
 use Rattle.problem.specs.Model.{planOf}
 use Rattle.lent.specs.declared.walk.Check.the-variants.{Passed}
-use Rattle.lent.proofs.Steps.{inputsCheck, step-refused, inputs-bounded, step-states, held-where}
+use Rattle.lent.proofs.Steps.{inputsCheck, statesCheck, step-failed, inputs-bounded, step-states, held-where}
 use Rattle.lent.proofs.walk.check_step.Statement.{statement}
 use Rattle.lent.proofs.walk.check_step.Tie as tie
 
@@ -34,10 +34,16 @@ check-inputs-requires : tie.Need-check-inputs-requires
 check-inputs-requires c κs =
     let s = c .before .before .before .before in
     let legal = s .pre .0 .0 in
-    (early s, legal .inputs .1, omega (arith, room s), s .pre .1 .1 .long)
+    (early s, legal .states .1, legal .inputs .1, omega (arith, room s), s .pre .1 .1 .long)
 
 enum-told : tie.Need-enum-told
 enum-told c = search needs
+
+-- what the inputs' tests answered
+inputs-are : (c : tie.After-check-inputs) →
+    let a = c .before .before .before .before .before .args in
+    inputsCheck (a .t1) (a .t2 .low) (a .t2 .high) (now (a .plan)) (a .k) ≡ c .check-inputs .result
+inputs-are c = sym (c .check-inputs .ensures .0)
 
 -- the inputs have passed, and stand in their places
 module _ (c : tie.After-enum-told) where
@@ -45,7 +51,7 @@ module _ (c : tie.After-enum-told) where
   start = c .before .before .before .before .before .before .before
 
   passed : let a = start .args in inputsCheck (a .t1) (a .t2 .low) (a .t2 .high) (now (a .plan)) (a .k) ≡ Passed
-  passed = sym (c .before .before .check-inputs .ensures .0) ∙ c .enum-told .given .1
+  passed = inputs-are (c .before .before) ∙ c .enum-told .given .1
 
   filled : let a = start .args in
       Stretch (10 * a .k) (a .t1 .m) (planOf (a .t1 .n) (a .t1 .m) (now (a .plan)) .u (a .k)) (a .v) (c .before .before .check-inputs .last .0)
@@ -91,17 +97,20 @@ returns c =
     let legal = s .pre .0 .0 in
     let terms = s .pre .0 .1 in
     let held = s .pre .1 .1 in
+    let a = s .args in
     let e = c .check-states .ensures in (
-      e .0 ∙ sym (step-states legal terms (early s) (now (s .args .plan)) held (passed i) (filled i)),
-      held-where legal terms (early s) (now (s .args .plan)) held (passed i) (filled i) _ _ (e .0) (e .1),
+      _∙_ {b = statesCheck (a .t1) (a .t2 .low) (a .t2 .high) (now (a .plan)) (i .before .before .check-inputs .last .0) (a .k)} (e .0)
+          (sym (step-states legal terms (early s) (now (a .plan)) held (passed i) (filled i))),
+      held-where legal terms (early s) (now (a .plan)) held (passed i) (filled i) _ _ (e .0) (e .1),
     )
 
 returns-2 : tie.Need-returns-2
 returns-2 c =
     let i = c .before .before .before in
     let s = i .before .before .before .before .before in
-    let e = sym (i .check-inputs .ensures .0) ∙ c .before .inputs .given .1 in
-    (sym (step-refused (s .pre .0 .0) (s .pre .0 .1) (early s) (now (s .args .plan)) e), tt)
+    let a = s .args in
+    let e = _∙_ {a = inputsCheck (a .t1) (a .t2 .low) (a .t2 .high) (now (a .plan)) (a .k)} (inputs-are i) (c .before .inputs .given .1) in
+    (sym (step-failed (s .pre .0 .0) (s .pre .0 .1) (early s) (now (a .plan)) e), tt)
 
 pub check-step-spec : {M : Type 1} → statement M
 check-step-spec =

@@ -7,7 +7,7 @@ use Rattle.primal.specs.Held.{HeldPlan}
 use Rattle.primal.proofs.HeldSteps.{held-none}
 use Rattle.lent.specs.declared.walk.Check.the-variants.{Passed}
 use Rattle.lent.specs.Checks.{first, stepCheck, planCheck}
-use Rattle.lent.proofs.Steps.{first-none, first-passed, first-refused}
+use Rattle.lent.proofs.Steps.{first-none, first-passed, first-failed}
 use Rattle.lent.proofs.walk.checked_plan.Statement.{statement}
 use Rattle.lent.proofs.walk.checked_plan.Tie as tie
 
@@ -26,6 +26,12 @@ check-step-requires c κs =
     let p = c .before .before .pre in
     ((p .0, p .1, omega arith), (p .2, c .before .loop .inv .2))
 
+-- what the step's tests answered
+step-is : (c : tie.After-check-step Inv-loop μ-loop) →
+    let a = c .before .before .before .args in
+    stepCheck (problemOf (a .t)) (planOf (a .t .n) (a .t .m) (a .plan .now)) (c .before .before .loop .k) ≡ c .check-step .result .check
+step-is c = sym (c .check-step .ensures .0)
+
 enum-told : tie.Need-enum-told Inv-loop μ-loop
 enum-told c = search needs
 
@@ -37,7 +43,7 @@ unfolding planCheck
 returns c =
     let f = c .before .before .before .before in
     let l = f .before .before .loop in
-    (sym (first-refused (l .k) _ _ (omega arith) (l .inv .1) (sym (f .check-step .ensures .0) ∙ c .before .check .given .1)), tt)
+    (sym (first-failed (l .k) _ _ (omega arith) (l .inv .1) (step-is f ∙ c .before .check .given .1)), tt)
 
 add-k : tie.Need-add-k Inv-loop μ-loop
 add-k c = search needs
@@ -50,7 +56,7 @@ loop-again c =
     let f = c .before .before .before in
     let l = f .before .before .loop in
     let e = c .enum-told .given .1 in
-    (omega arith, first-passed (l .k) _ (l .inv .1) (sym (f .check-step .ensures .0) ∙ e), rw e at (f .check-step .ensures .1))
+    (omega arith, first-passed (l .k) _ (l .inv .1) (step-is f ∙ e), rw e at (f .check-step .ensures .1))
 
 returns-2 : tie.Need-returns-2 Inv-loop μ-loop
 unfolding planCheck

@@ -1,12 +1,11 @@
 -- The figures of an answer are at most 10,000, so that a refusal's code, and the rounds, fit their words.
 use Prim.Native.Nat.{ℕ, zero, suc, _+_, _≤_}
 use mathlib.Core.Path.{_≡_, refl}
-use mathlib.Core.Bool.{Bool, cond, _||_}
+use mathlib.Core.Bool.{_||_}
 use mathlib.Core.List.{List}
 use native.Mathlib.Omega.{arith}
-use lib.IntN.{ℤ}
+use lib.IntN.{ℤ, _-ℤ_}
 use lib.Signed.{ltZ}
-use Rattle.integer.specs.Tests.{outside}
 use Rattle.integer.proofs.Operand.{Bytes}
 use Rattle.integer.proofs.Tests.{by-test}
 use Rattle.tape.specs.declared.Answer.{Answer}
@@ -19,17 +18,20 @@ use Rattle.tape.specs.Reading.{reading}
 use Rattle.tape.specs.Refusals.{row, figure}
 use Rattle.tape.proofs.Facts.{legal}
 use Rattle.tape.proofs.Offsets.{Carrying, carrying}
-use Rattle.problem.specs.Model.{Problem, Plan, problemOf, planOf, multipliersOf, rounded}
-use Rattle.problem.specs.Dual.{floor, floorOf, ceiling}
+use Rattle.problem.specs.Model.{problemOf, planOf, multipliersOf}
+use Rattle.problem.specs.Cost.{costOf}
+use Rattle.problem.specs.Dual.{floorOf, shows}
 use Rattle.lent.specs.declared.walk.Check.{Check}
 use Rattle.lent.specs.declared.walk.Check.the-variants as check
-use Rattle.lent.specs.Checks.{orElse, first, limits, meets, stateCheck, stepCheck, planCheck, wrongMultipliers, wrongPlanLength, wrongMultipliersLength}
+use Rattle.lent.specs.declared.walk.Test.{Test}
+use Rattle.lent.specs.declared.walk.Test.the-variants as test
+use Rattle.lent.specs.Checks.{planCheck, wrongMultipliers, wrongPlanLength, wrongMultipliersLength}
 use Rattle.judge.specs.declared.Judged.{Judged}
 use Rattle.judge.specs.declared.Judged.the-variants as judging
 use Rattle.judge.specs.declared.Shown.{Shown}
 use Rattle.judge.specs.declared.Shown.the-variants as showing
-use Rattle.judge.specs.Judging.{gapWithin, afterCheck, judgedOn, judgedAfterRead, judged}
-use Rattle.judge.specs.Judging.{floorAbove, shownOn, shownAfterRead, shown}
+use Rattle.judge.specs.Judging.{gapWithin, refusalOf, afterCheck, judgedOn, judgedAfterRead, judged}
+use Rattle.judge.specs.Judging.{shownOn, shownAfterRead, shown}
 use Rattle.rounds.specs.declared.Verdict.{Verdict}
 use Rattle.rounds.specs.declared.Verdict.the-variants.{Proved, Impossible, Neither}
 use Rattle.rounds.specs.Lent.{lentPlan}
@@ -76,35 +78,9 @@ small-read s = from-tape (reading s .answer) (carrying s)
 
 -- ---- The judges
 
-data SmallCheck : Check → Type 0 where
-  passed : SmallCheck check.Passed
-  refused : {why : Refusal} → Small why → SmallCheck (check.Refused why)
-
-either : {c d : Check} → SmallCheck c → SmallCheck d → SmallCheck (orElse c d)
-either passed k = k
-either (refused h) k = refused h
-
-small-first : (count : ℕ) (f : ℕ → Check) → ((j : ℕ) → SmallCheck (f j)) → SmallCheck (first count f)
-unfolding first
-small-first zero f h = passed
-small-first (suc count) f h = either (small-first count f h) (h count)
-
-tested : (test : Bool) (why : Refusal) → Small why → SmallCheck (cond test (check.Refused why) check.Passed)
-tested test why h = by-test SmallCheck test (λ _. refused h) (λ _. passed)
-
-small-limits : (lo hi v : ℤ) → SmallCheck (limits lo hi v)
-unfolding limits
-small-limits lo hi v = tested (outside lo hi v) OverLimit (omega arith)
-
-small-meets : (S v : ℤ) → SmallCheck (meets S v)
-unfolding meets
-small-meets S v = tested (outside (rounded S) (rounded S) v) OffModel (omega arith)
-
-small-plan : (q : Problem) (v : Plan) → SmallCheck (planCheck q v)
-unfolding planCheck stepCheck stateCheck
-small-plan q v =
-    small-first (q .horizon) _
-    (λ k. either (small-first (q .m) _ (λ j. small-limits _ _ _)) (small-first (q .n) _ (λ i. either (small-meets _ _) (small-limits _ _ _))))
+small-test : (t : Test) → Small (refusalOf t)
+small-test test.Model = omega arith
+small-test test.Limits = omega arith
 
 abbrev pub SmallJudged : Judged → Type 0
 SmallJudged (judging.Gap gap) = Unit {0}
@@ -117,14 +93,14 @@ small-judged s plan y = go (reading s .answer) (small-read s)
     t : Tape
     t = reading s .tape
 
-    checked : (c : Check) (gap : ℤ) → SmallCheck c → SmallJudged (afterCheck c (gapWithin t gap))
-    checked check.Passed gap passed = by-test SmallJudged (ltZ (t .wanted) gap) (λ _. omega arith) (λ _. tt)
-    checked (check.Refused why) gap (refused h) = h
+    checked : (c : Check) (cost floor : ℤ) → SmallJudged (afterCheck c (gapWithin t cost floor))
+    checked check.Passed cost floor = by-test SmallJudged (ltZ (t .wanted) (cost -ℤ floor)) (λ _. omega arith) (λ _. tt)
+    checked (check.Failed failure) cost floor = small-test (failure .test)
 
     go : (a : Answer) → SmallRead a → SmallJudged (judgedAfterRead a (judgedOn t plan y))
     go answer.Accepted h =
         by-test SmallJudged (wrongPlanLength t plan || wrongMultipliersLength t y) (λ _. omega arith)
-        (λ _. by-test SmallJudged (wrongMultipliers y) (λ _. omega arith) (λ _. checked _ _ (small-plan (problemOf t) (planOf (t .n) (t .m) plan))))
+        (λ _. by-test SmallJudged (wrongMultipliers y) (λ _. omega arith) (λ _. checked (planCheck (problemOf t) (planOf (t .n) (t .m) plan)) (costOf t plan) (floorOf t y)))
     go (answer.Refused why) h = h
 
 abbrev pub SmallShown : Shown → Type 0
@@ -132,7 +108,7 @@ SmallShown showing.Shown = Unit {0}
 SmallShown (showing.Refused why) = Small why
 
 pub small-shown : (s : List ℕ) (y : List ℤ) → SmallShown (shown s y)
-unfolding shown shownOn floorAbove
+unfolding shown shownOn
 small-shown s y = go (reading s .answer) (small-read s)
   where
     t : Tape
@@ -142,7 +118,7 @@ small-shown s y = go (reading s .answer) (small-read s)
     go answer.Accepted h =
         by-test SmallShown (wrongMultipliersLength t y) (λ _. omega arith)
         (λ _. by-test SmallShown (wrongMultipliers y) (λ _. omega arith)
-        (λ _. by-test SmallShown (ltZ (ceiling (problemOf t)) (floor (problemOf t) (multipliersOf (t .n) y))) (λ _. tt) (λ _. omega arith)))
+        (λ _. by-test SmallShown (shows (problemOf t) (multipliersOf (t .n) y)) (λ _. tt) (λ _. omega arith)))
     go (answer.Refused why) h = h
 
 -- ---- Solving

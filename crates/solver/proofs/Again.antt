@@ -28,7 +28,7 @@ use Rattle.lent.specs.Checks.{wrongPlanLength, wrongMultipliersLength}
 use Rattle.lent.proofs.LentMultipliers.{bounded-multipliers}
 use Rattle.judge.specs.declared.Judged.the-variants.{Gap}
 use Rattle.judge.specs.declared.Shown.the-variants.{Shown}
-use Rattle.judge.specs.Judging.{gapWithin, judgedOn, judged, floorAbove, shownOn, shown}
+use Rattle.judge.specs.Judging.{gapWithin, judgedOn, judged, shownOn, shown}
 use Rattle.judge.proofs.Accepted.{passes, backed, founded}
 use Rattle.rounds.specs.Lent.{lentPlan}
 use Rattle.rounds.specs.Rounds.{ahead, modelStates, candidate, exceeds, dropped, verdict}
@@ -103,7 +103,7 @@ module _ (t : Tape) (y : List ℤ) (long : length y ≡ t .horizon * t .n) (boun
       )
 
   shown-again : ltZ (ceiling (problemOf t)) (floorOf t y) ≡ true → shownOn t y ≡ Shown
-  unfolding shownOn floorAbove
+  unfolding shownOn
   shown-again e = rw (eq-eqb _ _ long, bounded-multipliers y bounded, e)
 
 -- ---- The rounds

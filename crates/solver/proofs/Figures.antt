@@ -16,7 +16,7 @@ use Rattle.problem.specs.Model.{stateAt, modelSum, rounded, residual}
 use Rattle.problem.specs.Cost.{total, cost, planCost}
 use Rattle.problem.specs.Dual.{inputSlope, adjoint, carried, stateSlope, conjugate, tilt, piece, pieces, constant, sizes, floor, larger, most, ceiling}
 use Rattle.problem.proofs.Figures.{bytes, wide, narrow, ample, table}
-use Rattle.lent.specs.Checks.{first, limits, meets, stateCheck, stepCheck, planCheck}
+use Rattle.lent.specs.Checks.{first, tested, stateCheck, stepCheck, planCheck}
 use Rattle.judge.specs.declared.Judged.{Judged}
 use Rattle.judge.specs.declared.Judged.the-variants as judgement
 use Rattle.judge.specs.Judging.{gapWithin, judgedOn, judged}
@@ -65,5 +65,5 @@ whole =
     ∷ []
 
 pub figures : map (λ f. f .0) whole ≡ map (λ f. f .1) whole
-unfolding unsigned signed _÷_ sum sizeCommand stateCommand inputCommand driftCommand columnCommand startCommand roundsCommand decoded wrongSize beyond outside wrongColumn wrong among required obeySize obeyEntry absent obeyEnd obey next readFrom reading stateAt modelSum rounded residual total cost planCost inputSlope adjoint carried stateSlope conjugate tilt piece pieces constant sizes floor larger most ceiling limited any first limits meets stateCheck stepCheck planCheck gapWithin judgedOn judged listed joined ahead minimiser modelStates dropped verdict ascended rounds solvingOn solving
+unfolding unsigned signed _÷_ sum sizeCommand stateCommand inputCommand driftCommand columnCommand startCommand roundsCommand decoded wrongSize beyond outside wrongColumn wrong among required obeySize obeyEntry absent obeyEnd obey next readFrom reading stateAt modelSum rounded residual total cost planCost inputSlope adjoint carried stateSlope conjugate tilt piece pieces constant sizes floor larger most ceiling limited any first limits meets tested stateCheck stepCheck planCheck gapWithin judgedOn judged listed joined ahead minimiser modelStates dropped verdict ascended rounds solvingOn solving
 figures = refl

@@ -33,6 +33,14 @@ reference expect < CASES
         impossible ROUNDS         of solve
     After the line of a solve, refused or not, come two more lines, `plan ..` and
     `multipliers ..`, with what the slices hold at exit.
+    Cases of whole numbers give the word again and a result for each part:
+        quotient DIVIDEND DIVISOR / ..    rounded down
+        limit NUMBER LO HI / ..           the number limited to lo and hi
+        size NUMBER / ..                  without its sign
+        square SLOPE DIVISOR / ..         the quotient of the square, rounded down
+        operands HEX                      of 4 bytes: the first as unsigned, the first 2 as
+                                          unsigned and as signed, the last 2 as signed, all as
+                                          unsigned and as signed
 
 reference generate [COUNT [SEED]]
     Makes COUNT (10000) cases from the seeds SEED (0), SEED + 1, .., runs them through all

@@ -3,16 +3,73 @@
 use std::collections::BTreeMap;
 
 use crate::calls::{judge_multipliers, judge_plan, read, solve, Shown, Solved};
+use crate::generate::rare::{HOT, LARGE};
 use crate::generate::{case, Case, Kind};
-use crate::model::{Furnace, Whole};
+use crate::model::{Column, Furnace, Whole};
 use crate::refusal::Refusal;
-use crate::tape::{MOST_INPUTS, MOST_STATES, MOST_STEPS};
+use crate::tape::{MOST_INPUTS, MOST_ROUNDS, MOST_STATES, MOST_STEPS};
 
-/// Rounds are counted in groups that end with these numbers; the last group has no end.
-const GROUP_ENDS: [u32; 7] = [1, 2, 5, 20, 100, 200, u32::MAX];
+/// Rounds are counted in groups, each with its last number and its name. The last group is the
+/// largest R alone.
+const GROUPS: [(u32, &str); 10] = [
+    (1, "1"),
+    (2, "2"),
+    (5, "3-5"),
+    (20, "6-20"),
+    (100, "21-100"),
+    (200, "101-200"),
+    (999, "201-999"),
+    (2_999, "1000-2999"),
+    (9_999, "3000-9999"),
+    (MOST_ROUNDS as u32, "10000"),
+];
 
-/// The names of the groups of rounds.
-const GROUP_NAMES: [&str; 7] = ["1", "2", "3-5", "6-20", "21-100", "101-200", "201+"];
+/// A shape of furnaces: its name, and whether a furnace has it.
+type Shape = (&'static str, fn(&Furnace) -> bool);
+
+/// Shapes that are counted, since random numbers hardly have them together with an answer.
+const SHAPES: [Shape; 9] = [
+    ("state r below lo", |f| {
+        states(f).any(|c| c.reference < c.lo)
+    }),
+    ("state r above hi", |f| {
+        states(f).any(|c| c.reference > c.hi)
+    }),
+    ("input r below lo", |f| {
+        inputs(f).any(|c| c.reference < c.lo)
+    }),
+    ("input r above hi", |f| {
+        inputs(f).any(|c| c.reference > c.hi)
+    }),
+    ("state lo = hi", |f| states(f).any(|c| c.lo == c.hi)),
+    ("input lo = hi", |f| inputs(f).any(|c| c.lo == c.hi)),
+    ("A and B large, both signs", |f| {
+        large_both_signs(&f.a) && large_both_signs(&f.b)
+    }),
+    ("all above 1000 °C", |f| states(f).all(|c| c.lo > HOT)),
+    ("full size", |f| {
+        (f.states, f.inputs, f.horizon) == (MOST_STATES, MOST_INPUTS, MOST_STEPS)
+    }),
+];
+
+/// The columns of states.
+fn states(furnace: &Furnace) -> impl Iterator<Item = &Column> {
+    furnace.columns[..furnace.states].iter()
+}
+
+/// The columns of inputs.
+fn inputs(furnace: &Furnace) -> impl Iterator<Item = &Column> {
+    furnace.columns[furnace.states..].iter()
+}
+
+/// Are there large entries of both signs?
+fn large_both_signs(rows: &[Vec<Whole>]) -> bool {
+    let entries = rows.concat();
+    entries.iter().any(|entry| *entry >= LARGE) && entries.iter().any(|entry| *entry <= -LARGE)
+}
+
+/// Counted with the shapes: an answer in the last round that R allows.
+const LAST_ROUND: &str = "in round R";
 
 /// Counts by heading, then by name, in the order in which they are printed.
 #[derive(Clone, Debug, Default, PartialEq, Eq)]
@@ -43,11 +100,13 @@ impl Counts {
             let heading = |what: &str| format!("{answer}, {what}");
             // Round 0 has multipliers 0, whose floor is at most the ceiling: 'impossible' never
             // comes after 1 round.
-            let groups = &GROUP_NAMES[usize::from(answer == "impossible")..];
+            let groups = &GROUPS[usize::from(answer == "impossible")..];
             counts.expect(
                 &heading("rounds"),
-                groups.iter().map(|name| name.to_string()),
+                groups.iter().map(|(_, name)| name.to_string()),
             );
+            let shapes = SHAPES.iter().map(|(name, _)| *name).chain([LAST_ROUND]);
+            counts.expect(&heading("shape"), shapes.map(str::to_string));
             counts.expect(&heading("n"), up_to(MOST_STATES));
             counts.expect(&heading("m"), up_to(MOST_INPUTS));
             counts.expect(&heading("N"), up_to(MOST_STEPS));
@@ -82,13 +141,22 @@ impl Counts {
         }
     }
 
-    /// Counts a solve's answer by rounds and sizes.
+    /// Counts a solve's answer by rounds, sizes and shapes.
     fn add_rounds(&mut self, answer: &str, rounds: u32, furnace: &Furnace) {
-        let group = GROUP_ENDS.iter().take_while(|end| **end < rounds).count();
-        self.add(&format!("{answer}, rounds"), GROUP_NAMES[group]);
+        let group = GROUPS.iter().take_while(|(last, _)| *last < rounds).count();
+        self.add(&format!("{answer}, rounds"), GROUPS[group].1);
         self.add(&format!("{answer}, n"), &furnace.states.to_string());
         self.add(&format!("{answer}, m"), &furnace.inputs.to_string());
         self.add(&format!("{answer}, N"), &furnace.horizon.to_string());
+        let shape = format!("{answer}, shape");
+        for (name, has) in SHAPES {
+            if has(furnace) {
+                self.add(&shape, name);
+            }
+        }
+        if rounds == furnace.rounds {
+            self.add(&shape, LAST_ROUND);
+        }
     }
 
     /// Counts a generated tape by its kind.

@@ -44,8 +44,9 @@ reference expect < CASES
 
 reference generate [COUNT [SEED]]
     Makes COUNT (10000) cases from the seeds SEED (0), SEED + 1, .., runs them through all
-    calls and writes how often each answer and each refusal came. Fails if one never came,
-    which is to be expected of a small COUNT.
+    calls and writes how often each answer and each refusal came, and how often 'proved' and
+    'impossible' came by rounds, sizes and rare shapes. Fails if a count is 0, which is to be
+    expected of a small COUNT.
 ";
 
 fn main() -> ExitCode {

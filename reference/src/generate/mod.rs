@@ -5,8 +5,10 @@
 pub mod commands;
 pub mod damage;
 pub mod furnaces;
+pub mod late;
 pub mod lent;
 pub mod random;
+pub mod rare;
 
 pub use lent::Lent;
 pub use random::Random;
@@ -25,6 +27,10 @@ pub enum Kind {
     Proved,
     /// Accepted, tuned to end with 'impossible'.
     Impossible,
+    /// Accepted, of a shape that the kinds above hardly have, tuned to end with either.
+    Rare,
+    /// Accepted, tuned to end with either after 1,000 rounds or more.
+    Late,
     /// A tape of the kinds above with damages. Some are still accepted.
     Damaged,
     /// Bytes that are hardly a tape.
@@ -33,11 +39,13 @@ pub enum Kind {
 
 impl Kind {
     /// All kinds.
-    pub const ALL: [Kind; 6] = [
+    pub const ALL: [Kind; 8] = [
         Kind::Plain,
         Kind::Limits,
         Kind::Proved,
         Kind::Impossible,
+        Kind::Rare,
+        Kind::Late,
         Kind::Damaged,
         Kind::Noise,
     ];
@@ -92,12 +100,15 @@ pub fn case(seed: u64) -> Case {
 
 /// The next tape of a generator.
 fn tape_from(random: &mut Random) -> GeneratedTape {
-    let kind = match random.below(20) {
-        0..=2 => Kind::Plain,
-        3 => Kind::Limits,
-        4..=9 => Kind::Proved,
-        10..=13 => Kind::Impossible,
-        14..=18 => Kind::Damaged,
+    // Late ones are few: each costs as much as a hundred others.
+    let kind = match random.below(200) {
+        0..=29 => Kind::Plain,
+        30..=39 => Kind::Limits,
+        40..=89 => Kind::Proved,
+        90..=124 => Kind::Impossible,
+        125..=138 => Kind::Rare,
+        139 => Kind::Late,
+        140..=189 => Kind::Damaged,
         _ => Kind::Noise,
     };
     let bytes = match kind {
@@ -105,6 +116,8 @@ fn tape_from(random: &mut Random) -> GeneratedTape {
         Kind::Limits => whole(&furnaces::limits(random), random),
         Kind::Proved => whole(&furnaces::proved(random), random),
         Kind::Impossible => whole(&furnaces::impossible(random), random),
+        Kind::Rare => whole(&rare::any(random), random),
+        Kind::Late => whole(&late::any(random), random),
         Kind::Damaged => {
             let furnace = match random.below(4) {
                 0 => furnaces::limits(random),

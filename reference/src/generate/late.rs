@@ -1,0 +1,199 @@
+//! Furnaces whose rounds end late: with 'proved' or 'impossible' after 1,000 to 10,000 rounds.
+//! Most are small, since all these rounds are run several times.
+
+use super::furnaces::{
+    put_near_rest, put_out_of_reach, rest_drift, rounds_around, sized, trial, MOST_GAP,
+};
+use super::random::Random;
+use crate::floor::ceiling;
+use crate::model::{Column, Furnace, Whole, UNIT};
+use crate::rounds::{run, Round};
+use crate::tape::{
+    DRIFT_RANGE, MOST_INPUTS, MOST_ROUNDS, MOST_STATES, MOST_STEPS, MOST_WEIGHT, NUMBER_RANGE,
+};
+
+/// First and last of the rounds in which an answer is to come. The last one is the largest R.
+const STRETCHES: [(u32, u32); 3] = [(1_000, 2_999), (3_000, 9_999), (10_000, 10_000)];
+
+/// A blank furnace. The largest sizes end in the first stretch.
+fn blank(random: &mut Random, last: u32) -> Furnace {
+    let most = match random.below(12) {
+        0 if last == STRETCHES[0].1 => return sized(MOST_STATES, MOST_INPUTS, MOST_STEPS),
+        1 => 4,
+        _ => 2,
+    };
+    let (states, inputs) = (1 + random.below(most), 1 + random.below(most));
+    sized(states, inputs, 1 + random.below(2 * most))
+}
+
+/// A furnace whose rounds end late.
+pub fn any(random: &mut Random) -> Furnace {
+    if random.one_in(2) {
+        proved(random)
+    } else {
+        impossible(random)
+    }
+}
+
+/// A furnace whose rounds end with 'proved', late: T is the gap of a late round.
+fn proved(random: &mut Random) -> Furnace {
+    let (first, last) = random.choose(&STRETCHES);
+    loop {
+        let mut furnace = put_slow(blank(random, last), random);
+        let mut records = trial(&furnace, last).records;
+        records.retain(|(rounds, gap)| *rounds >= first && *gap <= MOST_GAP);
+        if !records.is_empty() {
+            let (rounds, gap) = random.choose(&records);
+            furnace.rounds = late_rounds(random, rounds);
+            furnace.wanted_gap = gap;
+            return furnace;
+        }
+    }
+}
+
+/// R for an answer that comes in round `rounds`, now and then one too few.
+fn late_rounds(random: &mut Random, rounds: u32) -> u32 {
+    rounds_around(random, rounds).min(MOST_ROUNDS as u32)
+}
+
+/// A blank furnace with the numbers of one that comes to its best plan slowly. It is a little too
+/// warm: step 4 adds a unit to a multiplier where e × g is from 32,768 to 98,303, and step 1 adds
+/// nothing to a rise of one unit. So multipliers rise by a unit a round, which the numbers of
+/// heavy weights hardly feel.
+fn put_slow(mut furnace: Furnace, random: &mut Random) -> Furnace {
+    // With a larger g the furnace is less too warm, which keeps gaps of larger ones within T.
+    furnace.step_size = if furnace.multipliers_length() > 8 {
+        random.between(6, 24)
+    } else {
+        random.between(1, 3)
+    };
+    for column in &mut furnace.columns {
+        let reference = random.between(-2_000, 2_000);
+        *column = Column {
+            lo: reference - random.between(100, 400),
+            hi: reference + random.between(100, 400),
+            reference,
+            weight: random.between(MOST_WEIGHT / 2, MOST_WEIGHT),
+        };
+    }
+    for i in 0..furnace.states {
+        furnace.a[i][i] = random.between(2_400, 4_200);
+        for j in 0..furnace.inputs {
+            furnace.b[i][j] = random.between(-600, 600);
+        }
+    }
+    for i in 0..furnace.states {
+        let too_warm = random.between(32_768, 98_303) / furnace.step_size;
+        let drift = rest_drift(&furnace, i) + too_warm;
+        furnace.drift[i] = drift.clamp(-DRIFT_RANGE, DRIFT_RANGE);
+        furnace.start[i] = furnace.columns[i].reference;
+    }
+    furnace
+}
+
+/// A furnace whose rounds end with 'impossible', late: its ceiling lies just below the floor of a
+/// late round.
+fn impossible(random: &mut Random) -> Furnace {
+    let (first, last) = random.choose(&STRETCHES);
+    loop {
+        let mut furnace = put_idle(blank(random, last), random);
+        let records = floor_records(&furnace, first, last);
+        if let Some((rounds, column)) = idle_column(&furnace, &records, random) {
+            *idle(&mut furnace) = column;
+            furnace.rounds = late_rounds(random, rounds);
+            return furnace;
+        }
+    }
+}
+
+/// The column of the last input.
+fn idle(furnace: &mut Furnace) -> &mut Column {
+    furnace.columns.last_mut().expect("there is an input")
+}
+
+/// A blank furnace with the numbers of one out of reach, whose last input heats nothing. The
+/// slope of an input that heats nothing is always 0: its hi raises the ceiling and changes no
+/// round. Here it is as high as it can be.
+fn put_idle(blank: Furnace, random: &mut Random) -> Furnace {
+    let mut furnace = put_near_rest(blank, random);
+    for row in &mut furnace.b {
+        *row.last_mut().expect("there is an input") = 0;
+    }
+    let margin = random.choose(&[1, 4, 20, 100]);
+    put_out_of_reach(&mut furnace, random, margin);
+    *idle(&mut furnace) = Column {
+        lo: -NUMBER_RANGE,
+        hi: NUMBER_RANGE,
+        reference: -NUMBER_RANGE,
+        weight: MOST_WEIGHT,
+    };
+    furnace.step_size = random.choose(&[1, 2, 4, 8, 16]);
+    furnace.wanted_gap = random.choose(&[0, 1_000, 1_000_000]);
+    furnace
+}
+
+/// A round whose floor is above those of all rounds before it.
+#[derive(Clone, Copy)]
+struct FloorRecord {
+    /// Rounds entered.
+    rounds: u32,
+    /// The largest floor before.
+    before: Whole,
+    /// The floor.
+    floor: Whole,
+}
+
+/// Runs `last` rounds, and gives those from round `first` on whose floor is a new record.
+fn floor_records(furnace: &Furnace, first: u32, last: u32) -> Vec<FloorRecord> {
+    let mut furnace = furnace.clone();
+    furnace.rounds = last;
+    // No gap is below 0.
+    furnace.wanted_gap = -1;
+    let mut records = Vec::new();
+    let mut before = Whole::MIN;
+    run(&furnace, &mut |round: &Round| {
+        let (rounds, floor) = (round.k + 1, round.floor);
+        if floor > before && rounds >= first {
+            records.push(FloorRecord {
+                rounds,
+                before,
+                floor,
+            });
+        }
+        before = before.max(floor);
+    });
+    records
+}
+
+/// A column of the idle input under which 'impossible' comes in one of the rounds, with that
+/// round: the ceiling is not below the floors before it, and below its own.
+fn idle_column(
+    furnace: &Furnace,
+    records: &[FloorRecord],
+    random: &mut Random,
+) -> Option<(u32, Column)> {
+    let mut without = furnace.clone();
+    idle(&mut without).hi = -NUMBER_RANGE;
+    let base = ceiling(&without);
+    let offset = random.below(records.len().max(1));
+    for place in 0..records.len() {
+        let record = records[(offset + place) % records.len()];
+        for weight in 1..=MOST_WEIGHT {
+            let price = UNIT * weight * furnace.horizon as Whole;
+            let room = record.floor - 1 - base;
+            let width = (room.max(0) / price).isqrt().min(2 * NUMBER_RANGE);
+            let ceiling = base + price * width * width;
+            if (record.before..record.floor).contains(&ceiling) {
+                let lo = random.between(-NUMBER_RANGE, NUMBER_RANGE - width);
+                let column = Column {
+                    lo,
+                    hi: lo + width,
+                    reference: lo,
+                    weight,
+                };
+                return Some((record.rounds, column));
+            }
+        }
+    }
+    None
+}

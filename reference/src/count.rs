@@ -78,6 +78,9 @@ pub struct Counts {
     counts: BTreeMap<(String, String), u64>,
 }
 
+/// The headings of the four calls.
+pub const CALLS: [&str; 4] = ["read", "judge plan", "judge multipliers", "solve"];
+
 impl Counts {
     /// The headings and names of all calls, with counts of 0.
     pub fn of_calls() -> Counts {
@@ -214,17 +217,25 @@ impl Counts {
         }
     }
 
-    /// The headings and names with a count of 0.
-    pub fn zeros(&self) -> Vec<String> {
+    /// Fails where a count is 0.
+    pub fn require_all(&self) -> Result<(), String> {
+        self.require(|_| true)
+    }
+
+    /// Fails where a count under one of the headings is 0.
+    pub fn require(&self, wanted: impl Fn(&str) -> bool) -> Result<(), String> {
         let mut zeros = Vec::new();
         for (heading, names) in &self.headings {
             for name in names {
-                if self.count(heading, name) == 0 {
+                if wanted(heading) && self.count(heading, name) == 0 {
                     zeros.push(format!("{heading}: {name}"));
                 }
             }
         }
-        zeros
+        if zeros.is_empty() {
+            return Ok(());
+        }
+        Err(format!("these counts are 0: {}", zeros.join("; ")))
     }
 
     /// The count of a name under a heading.
@@ -232,15 +243,21 @@ impl Counts {
         self.counts[&(heading.to_string(), name.to_string())]
     }
 
-    /// All counts as a text, a heading a line.
+    /// All counts as a text: each heading, and its counts in a line.
     pub fn text(&self) -> String {
+        self.text_of(|_| true)
+    }
+
+    /// The counts under some headings as a text.
+    pub fn text_of(&self, wanted: impl Fn(&str) -> bool) -> String {
         let mut text = String::new();
         for (heading, names) in &self.headings {
-            let counts: Vec<String> = names
-                .iter()
-                .map(|name| format!("{name}: {}", self.count(heading, name)))
-                .collect();
-            text += &format!("{heading}\n    {}\n", counts.join(", "));
+            if wanted(heading) {
+                let counts = names.iter();
+                let counts = counts.map(|name| format!("{name}: {}", self.count(heading, name)));
+                let counts: Vec<String> = counts.collect();
+                text += &format!("{heading}\n    {}\n", counts.join(", "));
+            }
         }
         text
     }

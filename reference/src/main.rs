@@ -82,12 +82,8 @@ fn run(words: &[&str]) -> Result<(), String> {
 fn generate(count: u64, seed: u64) -> Result<(), String> {
     let counts = count_cases(count, seed);
     write_out(&counts.text())?;
-    let zeros = counts.zeros();
-    if zeros.is_empty() {
-        write_out("no count is 0\n")
-    } else {
-        Err(format!("these counts are 0: {}", zeros.join("; ")))
-    }
+    counts.require_all()?;
+    write_out("no count is 0\n")
 }
 
 /// A whole number from an argument.

@@ -38,8 +38,10 @@ pub fn any(random: &mut Random) -> Furnace {
 /// A furnace whose rounds end with 'proved', late: T is the gap of a late round.
 fn proved(random: &mut Random) -> Furnace {
     let (first, last) = random.choose(&STRETCHES);
+    // In later stretches hardly any swing ends.
+    let swings = last == STRETCHES[0].1 && random.one_in(2);
     loop {
-        let mut furnace = put_slow(blank(random, last), random);
+        let mut furnace = put_slow(blank(random, last), random, swings);
         let mut records = trial(&furnace, last).records;
         records.retain(|(rounds, gap)| *rounds >= first && *gap <= MOST_GAP);
         if !records.is_empty() {
@@ -56,12 +58,11 @@ fn late_rounds(random: &mut Random, rounds: u32) -> u32 {
     rounds_around(random, rounds).min(MOST_ROUNDS as u32)
 }
 
-/// A blank furnace with the numbers of one that comes to its best plan slowly. It is a little too
-/// warm: step 4 adds a unit to a multiplier where e × g is from 32,768 to 98,303, and step 1 adds
-/// nothing to a rise of one unit. So multipliers rise by a unit a round, which the numbers of
-/// heavy weights hardly feel.
-fn put_slow(mut furnace: Furnace, random: &mut Random) -> Furnace {
-    // With a larger g the furnace is less too warm, which keeps gaps of larger ones within T.
+/// A blank furnace with the numbers of one that comes to its best plan slowly: weights are heavy
+/// and g is small, so that the numbers of a plan hardly feel a round. The multipliers of the first
+/// state swing where `swings` says so, all others creep.
+fn put_slow(mut furnace: Furnace, random: &mut Random, swings: bool) -> Furnace {
+    // With a larger g `creeping` is less, which keeps the gaps of larger furnaces within T.
     furnace.step_size = if furnace.multipliers_length() > 8 {
         random.between(6, 24)
     } else {
@@ -83,12 +84,31 @@ fn put_slow(mut furnace: Furnace, random: &mut Random) -> Furnace {
         }
     }
     for i in 0..furnace.states {
-        let too_warm = random.between(32_768, 98_303) / furnace.step_size;
-        let drift = rest_drift(&furnace, i) + too_warm;
+        let disturbance = if swings && i == 0 {
+            swinging(&mut furnace, random, i)
+        } else {
+            creeping(&furnace, random)
+        };
+        let drift = rest_drift(&furnace, i) + disturbance;
         furnace.drift[i] = drift.clamp(-DRIFT_RANGE, DRIFT_RANGE);
         furnace.start[i] = furnace.columns[i].reference;
     }
     furnace
+}
+
+/// A disturbance under which a multiplier rises by a unit a round: step 4 adds a unit where e × g
+/// is from 32,768 to 98,303, and step 1 adds nothing to a rise of one unit.
+fn creeping(furnace: &Furnace, random: &mut Random) -> Whole {
+    random.between(32_768, 98_303) / furnace.step_size
+}
+
+/// A disturbance under which a multiplier swings widely around its best value for thousands of
+/// rounds, since step 1 carries it past. State i gets limits that leave room for it.
+fn swinging(furnace: &mut Furnace, random: &mut Random, i: usize) -> Whole {
+    furnace.a[i][i] = random.between(0, UNIT);
+    furnace.columns[i].lo = -NUMBER_RANGE;
+    furnace.columns[i].hi = NUMBER_RANGE;
+    UNIT * random.between(500, 3_000) * random.choose(&[-1, 1])
 }
 
 /// A furnace whose rounds end with 'impossible', late: its ceiling lies just below the floor of a

@@ -98,19 +98,29 @@ pub fn case(seed: u64) -> Case {
     }
 }
 
-/// The next tape of a generator.
-fn tape_from(random: &mut Random) -> GeneratedTape {
+/// The kind of a seed's tape, which is not made for it.
+pub fn kind(seed: u64) -> Kind {
+    kind_from(&mut Random::new(seed))
+}
+
+/// The kind of the next tape of a generator.
+fn kind_from(random: &mut Random) -> Kind {
     // Late ones are few: each costs as much as a hundred others.
-    let kind = match random.below(200) {
+    match random.below(200) {
         0..=29 => Kind::Plain,
         30..=39 => Kind::Limits,
         40..=89 => Kind::Proved,
         90..=124 => Kind::Impossible,
-        125..=138 => Kind::Rare,
-        139 => Kind::Late,
+        125..=137 => Kind::Rare,
+        138..=139 => Kind::Late,
         140..=189 => Kind::Damaged,
         _ => Kind::Noise,
-    };
+    }
+}
+
+/// The next tape of a generator.
+fn tape_from(random: &mut Random) -> GeneratedTape {
+    let kind = kind_from(random);
     let bytes = match kind {
         Kind::Plain => whole(&furnaces::plain(random), random),
         Kind::Limits => whole(&furnaces::limits(random), random),

@@ -3,10 +3,10 @@
 use std::collections::BTreeMap;
 
 use crate::calls::{judge_multipliers, judge_plan, read, solve, Shown, Solved};
-use crate::generate::rare::{HOT, LARGE};
 use crate::generate::{case, Case, Kind};
-use crate::model::{Column, Furnace, Whole};
+use crate::model::{Furnace, Whole};
 use crate::refusal::Refusal;
+use crate::shapes::SHAPES;
 use crate::tape::{MOST_INPUTS, MOST_ROUNDS, MOST_STATES, MOST_STEPS};
 
 /// Rounds are counted in groups, each with its last number and its name. The last group is the
@@ -23,50 +23,6 @@ const GROUPS: [(u32, &str); 10] = [
     (9_999, "3000-9999"),
     (MOST_ROUNDS as u32, "10000"),
 ];
-
-/// A shape of furnaces: its name, and whether a furnace has it.
-type Shape = (&'static str, fn(&Furnace) -> bool);
-
-/// Shapes that are counted, since random numbers hardly have them together with an answer.
-const SHAPES: [Shape; 9] = [
-    ("state r below lo", |f| {
-        states(f).any(|c| c.reference < c.lo)
-    }),
-    ("state r above hi", |f| {
-        states(f).any(|c| c.reference > c.hi)
-    }),
-    ("input r below lo", |f| {
-        inputs(f).any(|c| c.reference < c.lo)
-    }),
-    ("input r above hi", |f| {
-        inputs(f).any(|c| c.reference > c.hi)
-    }),
-    ("state lo = hi", |f| states(f).any(|c| c.lo == c.hi)),
-    ("input lo = hi", |f| inputs(f).any(|c| c.lo == c.hi)),
-    ("A and B large, both signs", |f| {
-        large_both_signs(&f.a) && large_both_signs(&f.b)
-    }),
-    ("all above 1000 °C", |f| states(f).all(|c| c.lo > HOT)),
-    ("full size", |f| {
-        (f.states, f.inputs, f.horizon) == (MOST_STATES, MOST_INPUTS, MOST_STEPS)
-    }),
-];
-
-/// The columns of states.
-fn states(furnace: &Furnace) -> impl Iterator<Item = &Column> {
-    furnace.columns[..furnace.states].iter()
-}
-
-/// The columns of inputs.
-fn inputs(furnace: &Furnace) -> impl Iterator<Item = &Column> {
-    furnace.columns[furnace.states..].iter()
-}
-
-/// Are there large entries of both signs?
-fn large_both_signs(rows: &[Vec<Whole>]) -> bool {
-    let entries = rows.concat();
-    entries.iter().any(|entry| *entry >= LARGE) && entries.iter().any(|entry| *entry <= -LARGE)
-}
 
 /// Counted with the shapes: an answer in the last round that R allows.
 const LAST_ROUND: &str = "in round R";

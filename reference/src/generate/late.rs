@@ -68,21 +68,8 @@ fn put_slow(mut furnace: Furnace, random: &mut Random, swings: bool) -> Furnace 
     } else {
         random.between(1, 3)
     };
-    for column in &mut furnace.columns {
-        let reference = random.between(-2_000, 2_000);
-        *column = Column {
-            lo: reference - random.between(100, 400),
-            hi: reference + random.between(100, 400),
-            reference,
-            weight: random.between(MOST_WEIGHT / 2, MOST_WEIGHT),
-        };
-    }
-    for i in 0..furnace.states {
-        furnace.a[i][i] = random.between(2_400, 4_200);
-        for j in 0..furnace.inputs {
-            furnace.b[i][j] = random.between(-600, 600);
-        }
-    }
+    put_heavy_columns(&mut furnace, random);
+    put_weak_entries(&mut furnace, random);
     for i in 0..furnace.states {
         let disturbance = if swings && i == 0 {
             swinging(&mut furnace, random, i)
@@ -94,6 +81,27 @@ fn put_slow(mut furnace: Furnace, random: &mut Random, swings: bool) -> Furnace 
         furnace.start[i] = furnace.columns[i].reference;
     }
     furnace
+}
+
+/// References of moderate size with limits around them and heavy weights.
+fn put_heavy_columns(furnace: &mut Furnace, random: &mut Random) {
+    for column in &mut furnace.columns {
+        let reference = random.between(-2_000, 2_000);
+        *column = Column {
+            lo: reference - random.between(100, 400),
+            hi: reference + random.between(100, 400),
+            reference,
+            weight: random.between(MOST_WEIGHT / 2, MOST_WEIGHT),
+        };
+    }
+}
+
+/// States that do not touch each other, and inputs that do little.
+fn put_weak_entries(furnace: &mut Furnace, random: &mut Random) {
+    for i in 0..furnace.states {
+        furnace.a[i][i] = random.between(2_400, 4_200);
+        furnace.b[i].fill_with(|| random.between(-600, 600));
+    }
 }
 
 /// A disturbance under which a multiplier rises by a unit a round: step 4 adds a unit where e × g
@@ -186,7 +194,7 @@ fn floor_records(furnace: &Furnace, first: u32, last: u32) -> Vec<FloorRecord> {
 }
 
 /// A column of the idle input under which 'impossible' comes in one of the rounds, with that
-/// round: the ceiling is not below the floors before it, and below its own.
+/// round.
 fn idle_column(
     furnace: &Furnace,
     records: &[FloorRecord],
@@ -194,26 +202,50 @@ fn idle_column(
 ) -> Option<(u32, Column)> {
     let mut without = furnace.clone();
     idle(&mut without).hi = -NUMBER_RANGE;
-    let base = ceiling(&without);
-    let offset = random.below(records.len().max(1));
-    for place in 0..records.len() {
-        let record = records[(offset + place) % records.len()];
-        for weight in 1..=MOST_WEIGHT {
-            let price = UNIT * weight * furnace.horizon as Whole;
-            let room = record.floor - 1 - base;
-            let width = (room.max(0) / price).isqrt().min(2 * NUMBER_RANGE);
-            let ceiling = base + price * width * width;
-            if (record.before..record.floor).contains(&ceiling) {
-                let lo = random.between(-NUMBER_RANGE, NUMBER_RANGE - width);
-                let column = Column {
-                    lo,
-                    hi: lo + width,
-                    reference: lo,
-                    weight,
-                };
-                return Some((record.rounds, column));
-            }
-        }
+    let others = ceiling(&without);
+    let first = random.below(records.len().max(1));
+    let mut in_turn = records[first..].iter().chain(&records[..first]);
+    in_turn.find_map(|record| {
+        let (weight, width) = idle_width(record, others, furnace.horizon)?;
+        let lo = random.between(-NUMBER_RANGE, NUMBER_RANGE - width);
+        let column = Column {
+            lo,
+            hi: lo + width,
+            reference: lo,
+            weight,
+        };
+        Some((record.rounds, column))
+    })
+}
+
+/// A weight and a width of the idle input's limits, which begin at its reference, that put the
+/// ceiling below the record's floor and not below the floors before it. `others` is the other
+/// columns' part of the ceiling.
+fn idle_width(record: &FloorRecord, others: Whole, horizon: usize) -> Option<(Whole, Whole)> {
+    let room = (record.floor - 1 - others).max(0);
+    (1..=MOST_WEIGHT).find_map(|weight| {
+        let price = UNIT * weight * horizon as Whole;
+        let width = (room / price).isqrt().min(2 * NUMBER_RANGE);
+        let ceiling = others + price * width * width;
+        let fits = (record.before..record.floor).contains(&ceiling);
+        fits.then_some((weight, width))
+    })
+}
+
+#[cfg(test)]
+mod tests {
+    use super::*;
+
+    #[test]
+    fn the_ceiling_lies_between_two_floors() {
+        let record = FloorRecord {
+            rounds: 1_000,
+            before: 4_990_000,
+            floor: 5_010_000,
+        };
+        // 3 steps × 4096 × 13 × 5² = 3,993,600. Lighter weights give 324 × 12,288 at most.
+        assert_eq!(idle_width(&record, 1_000_000, 3), Some((13, 5)));
+        // The other columns alone are at the floor.
+        assert_eq!(idle_width(&record, 5_010_000, 3), None);
     }
-    None
 }

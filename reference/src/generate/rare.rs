@@ -5,6 +5,7 @@ use super::furnaces::{
 };
 use super::random::Random;
 use crate::model::{Column, Furnace, Whole, UNIT};
+use crate::shapes::{HOT, LARGE};
 use crate::tape::{DRIFT_RANGE, ENTRY_RANGE, MOST_INPUTS, MOST_STATES, MOST_STEPS, NUMBER_RANGE};
 
 /// What is rare about a furnace.
@@ -23,12 +24,6 @@ enum Shape {
     /// The largest sizes.
     Largest,
 }
-
-/// 1,000 °C in tenths of a degree.
-pub const HOT: Whole = 10_000;
-
-/// Entries of A and B from here on count as large.
-pub const LARGE: Whole = ENTRY_RANGE / 2;
 
 /// A furnace of any of the shapes.
 pub fn any(random: &mut Random) -> Furnace {
@@ -112,20 +107,11 @@ fn fix_state(furnace: &mut Furnace, random: &mut Random) {
     furnace.start[i] = column.lo;
 }
 
-/// A furnace near rest with all temperatures put up by a number for each state, and with the
-/// drift that goes with it.
+/// A furnace near rest at temperatures above [`HOT`].
 fn hot(random: &mut Random) -> Furnace {
     loop {
         let mut furnace = near_rest(random);
-        let mut raise = Vec::new();
-        for column in &mut furnace.columns[..furnace.states] {
-            let highest = NUMBER_RANGE - column.hi.max(column.reference);
-            let by = random.between(HOT + 1 - column.lo, highest);
-            column.lo += by;
-            column.hi += by;
-            column.reference += by;
-            raise.push(by);
-        }
+        let raise = raise_columns(&mut furnace, random);
         for i in 0..furnace.states {
             furnace.start[i] = (furnace.start[i] + raise[i]).min(NUMBER_RANGE);
             furnace.drift[i] += UNIT * raise[i];
@@ -139,6 +125,20 @@ fn hot(random: &mut Random) -> Furnace {
     }
 }
 
+/// Raises limits and reference of each state by a number of its own. Gives these numbers.
+fn raise_columns(furnace: &mut Furnace, random: &mut Random) -> Vec<Whole> {
+    let states = furnace.columns[..furnace.states].iter_mut();
+    let raised = states.map(|column| {
+        let most = NUMBER_RANGE - column.hi.max(column.reference);
+        let raise = random.between(HOT + 1 - column.lo, most);
+        column.lo += raise;
+        column.hi += raise;
+        column.reference += raise;
+        raise
+    });
+    raised.collect()
+}
+
 /// A large entry.
 fn large(random: &mut Random) -> Whole {
     random.between(LARGE, ENTRY_RANGE) * random.choose(&[-1, 1])
@@ -149,22 +149,9 @@ fn large_entries(random: &mut Random) -> Furnace {
     let states = 3 + random.below(MOST_STATES - 2);
     let inputs = 1 + random.below(MOST_INPUTS);
     let mut furnace = sized(states, inputs, 1 + random.below(MOST_STEPS));
-    put_large_states(&mut furnace, random);
-    for row in &mut furnace.b {
-        row.fill_with(|| large(random) * random.choose(&[0, 1]));
-    }
-    (furnace.b[0][0], furnace.b[1][0]) = (ENTRY_RANGE, -ENTRY_RANGE);
-    let most_weight = random.choose(&[1, 4, 20]);
-    for column in &mut furnace.columns {
-        // Small, so that the drift that keeps them at rest is in its range.
-        let reference = random.between(-40, 40);
-        *column = Column {
-            lo: reference - random.between(500, 8_000),
-            hi: reference + random.between(500, 8_000),
-            reference,
-            weight: random.between(1, most_weight),
-        };
-    }
+    put_large_a(&mut furnace, random);
+    put_large_b(&mut furnace, random);
+    put_wide_columns(&mut furnace, random);
     let deviation = random.choose(&[2, 10, 40]);
     put_at_rest(&mut furnace, random, deviation);
     furnace
@@ -172,7 +159,7 @@ fn large_entries(random: &mut Random) -> Furnace {
 
 /// Large entries of A: in few steps anywhere; in more steps above the diagonal only, in an order
 /// of the states, so that temperatures do not run away.
-fn put_large_states(furnace: &mut Furnace, random: &mut Random) {
+fn put_large_a(furnace: &mut Furnace, random: &mut Random) {
     let mut order: Vec<usize> = (0..furnace.states).collect();
     random.shuffle(&mut order);
     for p in 0..furnace.states {
@@ -189,4 +176,27 @@ fn put_large_states(furnace: &mut Furnace, random: &mut Random) {
     }
     furnace.a[order[0]][order[1]] = ENTRY_RANGE;
     furnace.a[order[1]][order[2]] = -ENTRY_RANGE;
+}
+
+/// Large entries of B.
+fn put_large_b(furnace: &mut Furnace, random: &mut Random) {
+    for row in &mut furnace.b {
+        row.fill_with(|| large(random) * random.choose(&[0, 1]));
+    }
+    (furnace.b[0][0], furnace.b[1][0]) = (ENTRY_RANGE, -ENTRY_RANGE);
+}
+
+/// Wide limits around references that are small, so that the drift that keeps them at rest is in
+/// its range.
+fn put_wide_columns(furnace: &mut Furnace, random: &mut Random) {
+    let most_weight = random.choose(&[1, 4, 20]);
+    for column in &mut furnace.columns {
+        let reference = random.between(-40, 40);
+        *column = Column {
+            lo: reference - random.between(500, 8_000),
+            hi: reference + random.between(500, 8_000),
+            reference,
+            weight: random.between(1, most_weight),
+        };
+    }
 }

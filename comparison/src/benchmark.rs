@@ -3,23 +3,22 @@
 use std::hint::black_box;
 use std::time::{Duration, Instant};
 
-use reference::calls::Solved;
 use reference::generate::commands::of_furnace;
-use reference::generate::furnaces::largest;
+use reference::generate::furnaces::{largest, trial, MOST_GAP};
 use reference::generate::Random;
 use reference::model::Furnace;
-use reference::refusal::Refusal;
 
-use crate::calls::{by_planner, by_reference, Answer, Call, Left, Lending};
+use crate::calls::{by_planner, by_reference, Call, Left, Lending};
 use crate::guard::Beside;
 
 /// The seed of the tapes.
 const SEED: u64 = 12;
 
-/// R of the tapes. T is 0, which hardly any gap is, so that most run all rounds.
+/// R of the tapes. T is the smallest gap of these rounds, so that the answer is 'proved', which
+/// shows a plan and multipliers to compare.
 const ROUNDS: u32 = 500;
 
-/// A tape with fewer rounds is not used: reading it would weigh too much.
+/// A tape that ends after fewer rounds is not used: reading it would weigh too much.
 const LEAST_ROUNDS: u32 = 100;
 
 /// How often each tape is solved by each side.
@@ -35,20 +34,13 @@ struct Timed {
 
 impl Timed {
     /// A furnace's tape with slices of 0.
-    fn new(furnace: &Furnace, random: &mut Random) -> Timed {
-        let mut timed = Timed {
+    fn new(furnace: &Furnace, rounds: u32, random: &mut Random) -> Timed {
+        Timed {
             tape: of_furnace(furnace, random).concat(),
             plan: vec![0; furnace.plan_length()],
             multipliers: vec![0; furnace.multipliers_length()],
-            rounds: 0,
-        };
-        timed.rounds = match by_reference(Call::Solve, &timed.lending()) {
-            (Answer::Solved(Ok(Solved::Proved { rounds, .. })), _) => rounds,
-            (Answer::Solved(Ok(Solved::Impossible { rounds })), _) => rounds,
-            (Answer::Solved(Err(Refusal::Open { rounds })), _) => rounds,
-            _ => unreachable!("the tape is whole and the slices have their lengths"),
-        };
-        timed
+            rounds,
+        }
     }
 
     /// What a solve is lent.
@@ -63,10 +55,13 @@ fn tapes(count: usize) -> Vec<Timed> {
     let mut all = Vec::new();
     while all.len() < count {
         let mut furnace = largest(&mut random);
-        furnace.rounds = ROUNDS;
-        let timed = Timed::new(&furnace, &mut random);
-        if timed.rounds >= LEAST_ROUNDS {
-            all.push(timed);
+        match trial(&furnace, ROUNDS).records.last() {
+            Some((rounds, gap)) if *rounds >= LEAST_ROUNDS && *gap <= MOST_GAP => {
+                furnace.rounds = ROUNDS;
+                furnace.wanted_gap = *gap;
+                all.push(Timed::new(&furnace, *rounds, &mut random));
+            }
+            _ => (),
         }
     }
     all

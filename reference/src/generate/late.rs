@@ -12,18 +12,58 @@ use crate::tape::{
     DRIFT_RANGE, MOST_INPUTS, MOST_ROUNDS, MOST_STATES, MOST_STEPS, MOST_WEIGHT, NUMBER_RANGE,
 };
 
-/// First and last of the rounds in which an answer is to come. The last one is the largest R.
-const STRETCHES: [(u32, u32); 3] = [(1_000, 2_999), (3_000, 9_999), (10_000, 10_000)];
+/// What a late furnace is to be.
+#[derive(Clone, Copy, PartialEq, Eq)]
+struct Aim {
+    /// The first of the rounds in which its answer is to come.
+    first: u32,
+    /// The last of them.
+    last: u32,
+    /// Has it the largest sizes?
+    largest: bool,
+}
 
-/// A blank furnace. The largest sizes end in the first stretch.
-fn blank(random: &mut Random, last: u32) -> Furnace {
-    let most = match random.below(12) {
-        0 if last == STRETCHES[0].1 => return sized(MOST_STATES, MOST_INPUTS, MOST_STEPS),
-        1 => 4,
-        _ => 2,
-    };
-    let (states, inputs) = (1 + random.below(most), 1 + random.below(most));
-    sized(states, inputs, 1 + random.below(2 * most))
+impl Aim {
+    /// The earliest of the small ones.
+    const EARLY: Aim = Aim::small(1_000, 2_999);
+
+    /// An answer from round `first` to round `last`, with small sizes.
+    const fn small(first: u32, last: u32) -> Aim {
+        Aim {
+            first,
+            last,
+            largest: false,
+        }
+    }
+
+    /// Any. Few have the largest sizes, whose rounds cost most.
+    fn any(random: &mut Random) -> Aim {
+        let most = MOST_ROUNDS as u32;
+        let aims = [
+            Aim::EARLY,
+            Aim::small(3_000, most - 1),
+            Aim::small(most, most),
+        ];
+        let aim = random.choose(&aims);
+        if aim == Aim::EARLY && random.one_in(6) {
+            return Aim {
+                first: 1_000,
+                last: 1_499,
+                largest: true,
+            };
+        }
+        aim
+    }
+
+    /// A blank furnace.
+    fn blank(self, random: &mut Random) -> Furnace {
+        if self.largest {
+            return sized(MOST_STATES, MOST_INPUTS, MOST_STEPS);
+        }
+        let most = if random.one_in(12) { 4 } else { 2 };
+        let (states, inputs) = (1 + random.below(most), 1 + random.below(most));
+        sized(states, inputs, 1 + random.below(2 * most))
+    }
 }
 
 /// A furnace whose rounds end late.
@@ -37,13 +77,13 @@ pub fn any(random: &mut Random) -> Furnace {
 
 /// A furnace whose rounds end with 'proved', late: T is the gap of a late round.
 fn proved(random: &mut Random) -> Furnace {
-    let (first, last) = random.choose(&STRETCHES);
-    // In later stretches hardly any swing ends.
-    let swings = last == STRETCHES[0].1 && random.one_in(2);
+    let aim = Aim::any(random);
+    // Later on, and with the largest sizes, gaps that swing hardly come to a new smallest one.
+    let swings = aim == Aim::EARLY && random.one_in(2);
     loop {
-        let mut furnace = put_slow(blank(random, last), random, swings);
-        let mut records = trial(&furnace, last).records;
-        records.retain(|(rounds, gap)| *rounds >= first && *gap <= MOST_GAP);
+        let mut furnace = put_slow(aim.blank(random), random, swings);
+        let mut records = trial(&furnace, aim.last).records;
+        records.retain(|(rounds, gap)| *rounds >= aim.first && *gap <= MOST_GAP);
         if !records.is_empty() {
             let (rounds, gap) = random.choose(&records);
             furnace.rounds = late_rounds(random, rounds);
@@ -122,10 +162,10 @@ fn swinging(furnace: &mut Furnace, random: &mut Random, i: usize) -> Whole {
 /// A furnace whose rounds end with 'impossible', late: its ceiling lies just below the floor of a
 /// late round.
 fn impossible(random: &mut Random) -> Furnace {
-    let (first, last) = random.choose(&STRETCHES);
+    let aim = Aim::any(random);
     loop {
-        let mut furnace = put_idle(blank(random, last), random);
-        let records = floor_records(&furnace, first, last);
+        let mut furnace = put_idle(aim.blank(random), random);
+        let records = floor_records(&furnace, aim);
         if let Some((rounds, column)) = idle_column(&furnace, &records, random) {
             *idle(&mut furnace) = column;
             furnace.rounds = late_rounds(random, rounds);
@@ -171,17 +211,17 @@ struct FloorRecord {
     floor: Whole,
 }
 
-/// Runs `last` rounds, and gives those from round `first` on whose floor is a new record.
-fn floor_records(furnace: &Furnace, first: u32, last: u32) -> Vec<FloorRecord> {
+/// The rounds in which the answer is to come whose floor is a new record.
+fn floor_records(furnace: &Furnace, aim: Aim) -> Vec<FloorRecord> {
     let mut furnace = furnace.clone();
-    furnace.rounds = last;
+    furnace.rounds = aim.last;
     // No gap is below 0.
     furnace.wanted_gap = -1;
     let mut records = Vec::new();
     let mut before = Whole::MIN;
     run(&furnace, &mut |round: &Round| {
         let (rounds, floor) = (round.k + 1, round.floor);
-        if floor > before && rounds >= first {
+        if floor > before && rounds >= aim.first {
             records.push(FloorRecord {
                 rounds,
                 before,

@@ -3,30 +3,50 @@
 use std::hint::black_box;
 use std::time::{Duration, Instant};
 
-use reference::calls::Solved;
 use reference::generate::commands::of_furnace;
-use reference::generate::furnaces::largest;
+use reference::generate::furnaces::{largest, trial, MOST_GAP};
 use reference::generate::Random;
 use reference::model::Furnace;
-use reference::refusal::Refusal;
+
+use crate::calls::{by_planner, by_reference, Call, Left, Lending};
+use crate::guard::Beside;
 
 /// The seed of the tapes.
 const SEED: u64 = 12;
 
-/// R of the tapes. T is 0, which hardly any gap is, so that most run all rounds.
+/// R of the tapes. T is the smallest gap of these rounds, so that the answer is 'proved', which
+/// shows a plan and multipliers to compare.
 const ROUNDS: u32 = 500;
 
-/// A tape with fewer rounds is not used: reading it would weigh too much.
+/// A tape that ends after fewer rounds is not used: reading it would weigh too much.
 const LEAST_ROUNDS: u32 = 100;
 
 /// How often each tape is solved by each side.
 const PASSES: usize = 5;
 
-/// A tape with its sizes and the rounds that its solve enters.
+/// A tape with slices for its plan and its multipliers, and the rounds that its solve enters.
 struct Timed {
     tape: Vec<u8>,
-    furnace: Furnace,
+    plan: Vec<i32>,
+    multipliers: Vec<i32>,
     rounds: u32,
+}
+
+impl Timed {
+    /// A furnace's tape with slices of 0.
+    fn new(furnace: &Furnace, rounds: u32, random: &mut Random) -> Timed {
+        Timed {
+            tape: of_furnace(furnace, random).concat(),
+            plan: vec![0; furnace.plan_length()],
+            multipliers: vec![0; furnace.multipliers_length()],
+            rounds,
+        }
+    }
+
+    /// What a solve is lent.
+    fn lending(&self) -> Lending<'_> {
+        Lending::new("a timed tape", &self.tape, &self.plan, &self.multipliers)
+    }
 }
 
 /// Tapes that run a decent count of rounds.
@@ -35,54 +55,35 @@ fn tapes(count: usize) -> Vec<Timed> {
     let mut all = Vec::new();
     while all.len() < count {
         let mut furnace = largest(&mut random);
-        furnace.rounds = ROUNDS;
-        let tape = of_furnace(&furnace, &mut random).concat();
-        let rounds = match by_reference(&tape, &furnace) {
-            Ok(Solved::Proved { rounds, .. } | Solved::Impossible { rounds }) => rounds,
-            Err(Refusal::Open { rounds }) => rounds,
-            Err(_) => unreachable!("the tape is whole and the slices have their lengths"),
-        };
-        if rounds >= LEAST_ROUNDS {
-            all.push(Timed {
-                tape,
-                furnace,
-                rounds,
-            });
+        match trial(&furnace, ROUNDS).records.last() {
+            Some((rounds, gap)) if *rounds >= LEAST_ROUNDS && *gap <= MOST_GAP => {
+                furnace.rounds = ROUNDS;
+                furnace.wanted_gap = *gap;
+                all.push(Timed::new(&furnace, *rounds, &mut random));
+            }
+            _ => (),
         }
     }
     all
 }
 
-/// Solves by the second program.
-fn by_reference(tape: &[u8], furnace: &Furnace) -> Result<Solved, Refusal> {
-    let mut plan = vec![0; furnace.plan_length()];
-    let mut multipliers = vec![0; furnace.multipliers_length()];
-    reference::solve(tape, &mut plan, &mut multipliers)
-}
-
-/// Solves by the planner.
-fn by_planner(tape: &[u8], furnace: &Furnace) -> Result<fibergravel::Solved, fibergravel::Refusal> {
-    let mut plan = vec![0; furnace.plan_length()];
-    let mut multipliers = vec![0; furnace.multipliers_length()];
-    fibergravel::solve(tape, &mut plan, &mut multipliers)
-}
-
-/// How long a solve takes, its slices of 0 included.
-fn time<T>(solve: impl FnOnce() -> T) -> Duration {
+/// What a solve left, and how long it took, copies of what it was lent included.
+fn time(solve: impl FnOnce() -> Left) -> (Left, Duration) {
     let begin = Instant::now();
-    black_box(solve());
-    begin.elapsed()
+    let left = black_box(solve());
+    (left, begin.elapsed())
 }
 
-/// Times both sides over `count` tapes and prints times, rounds per second and the ratio.
-pub fn benchmark(count: usize) {
+/// Times both sides over `count` tapes, compares what they leave, and prints times, rounds per
+/// second and the ratio.
+pub fn benchmark(count: usize) -> Result<(), String> {
     let tapes = tapes(count);
     let rounds: u64 = tapes.iter().map(|timed| u64::from(timed.rounds)).sum();
     println!("{count} tapes of 6 states, 4 inputs and 12 steps, {rounds} rounds, {PASSES} passes");
     let mut totals = [Duration::ZERO; 2];
     let mut ratios = Vec::new();
     for pass in 0..PASSES {
-        let times = one_pass(&tapes, pass % 2 == 0);
+        let times = one_pass(&tapes, pass % 2 == 0)?;
         for (total, time) in totals.iter_mut().zip(times) {
             *total += time;
         }
@@ -98,22 +99,31 @@ pub fn benchmark(count: usize) {
     let ratio = totals[1].as_secs_f64() / totals[0].as_secs_f64();
     let (least, most) = (ratios[0], ratios[PASSES - 1]);
     println!("time of reference / time of planner: {ratio:.2} (passes {least:.2} to {most:.2})");
+    Ok(())
 }
 
-/// The times of planner and second program over all tapes, tape by tape in turn.
-fn one_pass(tapes: &[Timed], planner_first: bool) -> [Duration; 2] {
+/// The times of planner and second program over all tapes, tape by tape in turn. Fails where they
+/// differ in a tape.
+fn one_pass(tapes: &[Timed], planner_first: bool) -> Result<[Duration; 2], String> {
     let mut times = [Duration::ZERO; 2];
-    for Timed { tape, furnace, .. } in tapes {
-        let planner = || time(|| by_planner(tape, furnace));
-        let reference = || time(|| by_reference(tape, furnace));
+    for (place, timed) in tapes.iter().enumerate() {
+        let lending = timed.lending();
+        let planner = || time(|| by_planner(Call::Solve, &lending, Beside::Guards));
+        let reference = || time(|| by_reference(Call::Solve, &lending).1);
         let (of_planner, of_reference) = if planner_first {
             (planner(), reference())
         } else {
             let of_reference = reference();
             (planner(), of_reference)
         };
-        times[0] += of_planner;
-        times[1] += of_reference;
+        let ((found, planner_time), (expected, reference_time)) = (of_planner, of_reference);
+        if found != expected {
+            return Err(format!(
+                "tape {place} differs: planner {found:?}, reference {expected:?}"
+            ));
+        }
+        times[0] += planner_time;
+        times[1] += reference_time;
     }
-    times
+    Ok(times)
 }

@@ -1,12 +1,14 @@
-//! One call on both sides: by the planner between guard cells, and by the second program.
+//! One call on both sides: by the planner on slices with guard cells or with nothing beside them,
+//! and by the second program.
 
 use fibergravel::calls;
 use reference::cases::read_numbers;
+use reference::generate::Lent;
 use reference::{
     judge_multipliers, judge_plan, read, solve, Furnace, Refusal, Shown, Solved, Whole,
 };
 
-use crate::guard::{marks, Guarded, GUARD};
+use crate::guard::{marks, Beside, Guarded, GUARD};
 
 /// The four calls.
 #[derive(Clone, Copy, Debug, PartialEq, Eq)]
@@ -44,6 +46,8 @@ impl Call {
 /// What a call is lent. [`Call::Read`] takes the tape alone, [`Call::JudgeMultipliers`] no plan.
 #[derive(Clone, Copy, Debug)]
 pub struct Lending<'a> {
+    /// Where it comes from, in a few words.
+    pub origin: &'a str,
     /// The tape's bytes.
     pub tape: &'a [u8],
     /// The bytes that stand behind the tape in memory. No answer may depend on them.
@@ -59,13 +63,24 @@ const ENDS: [u8; GUARD] = [0xff; GUARD];
 
 impl<'a> Lending<'a> {
     /// A tape and slices with [`ENDS`] behind the tape.
-    pub fn new(tape: &'a [u8], plan: &'a [i32], multipliers: &'a [i32]) -> Lending<'a> {
+    pub fn new(
+        origin: &'a str,
+        tape: &'a [u8],
+        plan: &'a [i32],
+        multipliers: &'a [i32],
+    ) -> Lending<'a> {
         Lending {
+            origin,
             tape,
             behind: &ENDS,
             plan,
             multipliers,
         }
+    }
+
+    /// A tape and generated slices.
+    pub fn of(lent: &'a Lent, tape: &'a [u8]) -> Lending<'a> {
+        Lending::new(lent.origin, tape, &lent.plan, &lent.multipliers)
     }
 }
 
@@ -84,22 +99,25 @@ pub struct Left {
     pub rest_holds: bool,
 }
 
-/// The planner's side.
-pub fn by_planner(call: Call, lending: &Lending) -> Left {
-    let tape = Guarded::between(&ENDS, lending.tape, lending.behind);
-    let mut plan = Guarded::marked(lending.plan);
-    let mut multipliers = Guarded::marked(lending.multipliers);
+/// The planner's side, with guard cells or nothing beside each slice.
+pub fn by_planner(call: Call, lending: &Lending, beside: Beside) -> Left {
+    let tape = match beside {
+        Beside::Guards => Guarded::between(&ENDS, lending.tape, lending.behind),
+        Beside::Nothing => Guarded::between(&[], lending.tape, &[]),
+    };
+    let mut plan = Guarded::marked(lending.plan, beside);
+    let mut multipliers = Guarded::marked(lending.multipliers, beside);
     let (answer, out) = match call {
-        Call::Read => with_out(|out| calls::read(tape.lent(), out)),
-        Call::JudgePlan => {
-            with_out(|out| calls::judge_plan(tape.lent(), plan.lent(), multipliers.lent(), out))
-        }
-        Call::JudgeMultipliers => {
-            with_out(|_: &mut [i64; 0]| calls::judge_multipliers(tape.lent(), multipliers.lent()))
-        }
-        Call::Solve => {
-            with_out(|out| calls::solve(tape.lent(), plan.lent_mut(), multipliers.lent_mut(), out))
-        }
+        Call::Read => with_out(beside, |out| calls::read(tape.lent(), out)),
+        Call::JudgePlan => with_out(beside, |out| {
+            calls::judge_plan(tape.lent(), plan.lent(), multipliers.lent(), out)
+        }),
+        Call::JudgeMultipliers => with_out(beside, |_: &mut [i64; 0]| {
+            calls::judge_multipliers(tape.lent(), multipliers.lent())
+        }),
+        Call::Solve => with_out(beside, |out| {
+            calls::solve(tape.lent(), plan.lent_mut(), multipliers.lent_mut(), out)
+        }),
     };
     Left {
         answer,
@@ -115,9 +133,10 @@ pub fn by_planner(call: Call, lending: &Lending) -> Left {
 
 /// Calls with an `out` of marks, and gives the answer and `out`.
 fn with_out<const COUNT: usize>(
+    beside: Beside,
     call: impl FnOnce(&mut [i64; COUNT]) -> u64,
 ) -> (u64, Guarded<i64>) {
-    let mut out = Guarded::marked(&marks(COUNT));
+    let mut out = Guarded::marked(&marks(COUNT), beside);
     let lent = out.lent_mut().try_into().expect("COUNT cells are lent");
     (call(lent), out)
 }

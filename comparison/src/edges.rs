@@ -10,7 +10,7 @@ use reference::model::Furnace;
 use reference::tape::{operand_bytes, MOST_INPUTS, MOST_STATES, MOST_STEPS};
 
 use crate::calls::{Call, Lending};
-use crate::compare::{Comparison, EQUAL, MULTIPLIER_LENGTHS, PLAN_LENGTHS, TAPE_LENGTHS};
+use crate::comparison::{Comparison, EQUAL, MULTIPLIER_LENGTHS, PLAN_LENGTHS, TAPE_LENGTHS};
 
 /// The seed of everything here.
 const SEED: u64 = 8;
@@ -52,9 +52,9 @@ pub fn add_tapes(comparison: &mut Comparison) {
             for call in Call::ALL {
                 let lending = Lending {
                     behind,
-                    ..Lending::new(tape, &lent.plan, &lent.multipliers)
+                    ..Lending::new(TAPE_LENGTHS, tape, &lent.plan, &lent.multipliers)
                 };
-                comparison.also(TAPE_LENGTHS, call, &lending);
+                comparison.also(call, &lending);
             }
             if comparison.ends() {
                 return;
@@ -84,15 +84,16 @@ pub fn add_slices(comparison: &mut Comparison) {
         for length in 0..=MOST_STEPS * (MOST_STATES + MOST_INPUTS) + 1 {
             let lent = lent::any_values(length, multipliers, &mut random);
             for call in [Call::JudgePlan, Call::Solve] {
-                let lending = Lending::new(&tape, &lent.plan, &lent.multipliers);
-                comparison.also(PLAN_LENGTHS, call, &lending);
+                let lending = Lending::new(PLAN_LENGTHS, &tape, &lent.plan, &lent.multipliers);
+                comparison.also(call, &lending);
             }
         }
         for length in 0..=MOST_STEPS * MOST_STATES + 1 {
             let lent = lent::any_values(plan, length, &mut random);
             for call in [Call::JudgePlan, Call::JudgeMultipliers, Call::Solve] {
-                let lending = Lending::new(&tape, &lent.plan, &lent.multipliers);
-                comparison.also(MULTIPLIER_LENGTHS, call, &lending);
+                let lending =
+                    Lending::new(MULTIPLIER_LENGTHS, &tape, &lent.plan, &lent.multipliers);
+                comparison.also(call, &lending);
             }
         }
         if comparison.ends() {
@@ -113,8 +114,8 @@ pub fn add_equal(comparison: &mut Comparison) {
         let plan = vec![0; furnace.plan_length()];
         let multipliers = vec![0; furnace.multipliers_length()];
         for call in [Call::JudgeMultipliers, Call::Solve] {
-            let lending = Lending::new(&tape, &plan, &multipliers);
-            comparison.also(EQUAL, call, &lending);
+            let lending = Lending::new(EQUAL, &tape, &plan, &multipliers);
+            comparison.also(call, &lending);
         }
     }
 }

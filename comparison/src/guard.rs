@@ -1,7 +1,8 @@
-//! Lent numbers with guard cells on both sides, so that a write beside them shows.
+//! Lent numbers with guard cells on both sides, so that a write beside them shows, or with nothing
+//! beside them, so that valgrind sees it.
 
-use std::array::from_fn;
 use std::hint::black_box;
+use std::ops::Range;
 
 /// Guard cells on each side. The number is odd, so that a lent tape is not aligned.
 pub const GUARD: usize = 13;
@@ -31,40 +32,50 @@ pub fn marks<T: Mark>(count: usize) -> Vec<T> {
     (0..count).map(T::mark).collect()
 }
 
+/// What lies beside lent numbers.
+#[derive(Clone, Copy, Debug, PartialEq, Eq)]
+pub enum Beside {
+    /// Guard cells, in which a write shows.
+    Guards,
+    /// Nothing: they are a block of their own, so that valgrind sees any read or write beside
+    /// them.
+    Nothing,
+}
+
 /// Cells of which the middle ones are lent.
 pub struct Guarded<T> {
     cells: Vec<T>,
     before: Vec<T>,
-    lent: usize,
+    lent: Range<usize>,
 }
 
 impl<T: Copy + PartialEq> Guarded<T> {
     /// Lends a copy of `lent` with `front` before it and `behind` after it.
-    pub fn between(front: &[T; GUARD], lent: &[T], behind: &[T]) -> Guarded<T> {
+    pub fn between(front: &[T], lent: &[T], behind: &[T]) -> Guarded<T> {
         let cells = [front, lent, behind].concat();
         Guarded {
             before: cells.clone(),
             cells,
-            lent: lent.len(),
+            lent: front.len()..front.len() + lent.len(),
         }
     }
 
     /// The lent cells.
     pub fn lent(&self) -> &[T] {
-        &self.cells[GUARD..GUARD + self.lent]
+        &self.cells[self.lent.clone()]
     }
 
     /// The lent cells, to be written.
     pub fn lent_mut(&mut self) -> &mut [T] {
-        &mut self.cells[GUARD..GUARD + self.lent]
+        &mut self.cells[self.lent.clone()]
     }
 
     /// Is every cell that was not lent as it was? The cells are read as memory holds them, though
     /// Rust's rules would let the compiler take cells that were lent for reading as unchanged.
     pub fn guards_hold(&self) -> bool {
         let cells = black_box(&self.cells);
-        let behind = GUARD + self.lent;
-        cells[..GUARD] == self.before[..GUARD] && cells[behind..] == self.before[behind..]
+        let Range { start, end } = self.lent;
+        cells[..start] == self.before[..start] && cells[end..] == self.before[end..]
     }
 
     /// Is every cell as it was, the lent ones included?
@@ -74,9 +85,12 @@ impl<T: Copy + PartialEq> Guarded<T> {
 }
 
 impl<T: Mark> Guarded<T> {
-    /// Lends a copy of `lent` between marks.
-    pub fn marked(lent: &[T]) -> Guarded<T> {
-        Guarded::between(&from_fn(T::mark), lent, &marks(GUARD))
+    /// Lends a copy of `lent`, with marks beside it or nothing.
+    pub fn marked(lent: &[T], beside: Beside) -> Guarded<T> {
+        match beside {
+            Beside::Guards => Guarded::between(&marks(GUARD), lent, &marks(GUARD)),
+            Beside::Nothing => Guarded::between(&[], lent, &[]),
+        }
     }
 }
 
@@ -87,7 +101,7 @@ mod tests {
     #[test]
     fn a_write_beside_the_lent_cells_shows() {
         for place in 0..2 * GUARD + 3 {
-            let mut guarded = Guarded::marked(&[1i32, 2, 3]);
+            let mut guarded = Guarded::marked(&[1i32, 2, 3], Beside::Guards);
             assert_eq!(guarded.lent(), [1, 2, 3]);
             guarded.cells[place] ^= 1;
             let lent = (GUARD..GUARD + 3).contains(&place);

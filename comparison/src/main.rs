@@ -3,9 +3,13 @@
 
 mod benchmark;
 mod calls;
+mod cases;
 mod compare;
+mod comparison;
 mod edges;
 mod guard;
+mod memory;
+mod part;
 mod slip;
 mod tune;
 mod wrapper;
@@ -19,14 +23,31 @@ comparison: the planner against the second program
 comparison compare [COUNT [SEED]]
     Makes COUNT (20000) cases from the seeds SEED (0), SEED + 1, .. by the second program's
     generators and runs them through the four calls of libplanner.a and through the second
-    program. Every number of every answer and of everything lent is compared, refusals included,
-    with guard cells around what is lent; so is the text of the program slip. Prints how often
-    each answer and each refusal came, and each difference with its tape. Fails if something
-    differs or if one never came, which is to be expected of a small COUNT.
+    program; before them tapes and slices of every length, and inputs of the program slip. Every
+    number of every answer and of everything lent is compared, refusals included, with guard
+    cells around what is lent; so is the text of the program slip. Says every 10000 tapes on
+    standard error where it is. Prints how often each answer and each refusal came, and each
+    difference with its origin, everything lent and the command that repeats it. Fails if
+    something differs or if a count is 0, which is to be expected of a small COUNT. Where one
+    side crashes, it names the command that repeats that.
+
+comparison compare-here COUNT SEED
+    The same in this process, as `compare` runs it; a crash ends it. A line `at PART` on standard
+    error says what comes next.
+
+comparison replay PART
+    Repeats one part of a comparison: the case of a seed, where PART is a number; inputs of the
+    program slip (slips), tapes of every length (tapes), plans and multipliers of every length
+    (slices), floors at the ceiling (equal).
+
+comparison memory [COUNT [SEED]]
+    Compares COUNT (150) cases with each thing that is lent in a block of just its size. Under
+    valgrind, which then sees any read or write outside what is lent:
+        valgrind -q --error-exitcode=1 target/release/comparison memory
 
 comparison benchmark [COUNT]
     Solves COUNT (20) full-size tapes with both, in turn, and prints times, rounds per second and
-    the ratio.
+    the ratio. Fails if an answer, a plan or multipliers differ.
 
 The program slip is target/bin/slip of the repository, or what FIBERGRAVEL_SLIP names.
 ";
@@ -35,7 +56,7 @@ fn main() -> ExitCode {
     let arguments: Vec<String> = env::args().skip(1).collect();
     let words: Vec<&str> = arguments.iter().map(String::as_str).collect();
     match run(&words) {
-        Ok(()) => ExitCode::SUCCESS,
+        Ok(code) => code,
         Err(error) => {
             eprintln!("comparison: {error}");
             ExitCode::FAILURE
@@ -44,17 +65,22 @@ fn main() -> ExitCode {
 }
 
 /// Runs a subcommand.
-fn run(words: &[&str]) -> Result<(), String> {
+fn run(words: &[&str]) -> Result<ExitCode, String> {
     match words {
         ["--help" | "-h" | "help"] => print!("{HELP}"),
-        ["compare"] => compare::compare(20_000, 0)?,
-        ["compare", count] => compare::compare(number(count)?, 0)?,
-        ["compare", count, seed] => compare::compare(number(count)?, number(seed)?)?,
-        ["benchmark"] => benchmark::benchmark(20),
-        ["benchmark", count] => benchmark::benchmark(number(count)?.max(1) as usize),
+        ["compare"] => return compare::compare(20_000, 0),
+        ["compare", count] => return compare::compare(number(count)?, 0),
+        ["compare", count, seed] => return compare::compare(number(count)?, number(seed)?),
+        ["compare-here", count, seed] => compare::compare_here(number(count)?, number(seed)?)?,
+        ["replay", part] => compare::replay(part.parse()?)?,
+        ["memory"] => memory::memory(150, 0)?,
+        ["memory", count] => memory::memory(number(count)?, 0)?,
+        ["memory", count, seed] => memory::memory(number(count)?, number(seed)?)?,
+        ["benchmark"] => benchmark::benchmark(20)?,
+        ["benchmark", count] => benchmark::benchmark(number(count)?.max(1) as usize)?,
         _ => return Err("no such subcommand; see comparison --help".to_string()),
     }
-    Ok(())
+    Ok(ExitCode::SUCCESS)
 }
 
 /// A whole number from an argument.

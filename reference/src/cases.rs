@@ -8,12 +8,19 @@
 //! judge HEX / plan numbers / multipliers
 //! show HEX / multipliers
 //! solve HEX / plan numbers / multipliers
+//! quotient dividend divisor / ..
+//! limit number lo hi / ..
+//! size number / ..
+//! square slope divisor / ..
+//! operands HEX
 //! ```
 
+use std::str::FromStr;
+
 use crate::calls::{judge_multipliers, judge_plan, read, solve, Shown, Solved};
-use crate::model::{Column, Furnace, Whole};
+use crate::model::{floor_div, Column, Furnace, Whole};
 use crate::refusal::Refusal;
-use crate::tape::{MOST_COLUMNS, MOST_INPUTS, MOST_STATES};
+use crate::tape::{signed, unsigned, MOST_COLUMNS, MOST_INPUTS, MOST_STATES};
 
 /// The expected output for a text of cases, or what is wrong with the text.
 pub fn expect(text: &str) -> Result<String, String> {
@@ -67,8 +74,69 @@ fn answer(line: &str) -> Result<String, String> {
         ("read" | "judge" | "show" | "solve", _) => {
             Err(format!("`{call}` has another number of parts"))
         }
-        _ => Err(format!("no call is named `{call}`")),
+        _ => whole_numbers(call, &parts),
     }
+}
+
+/// The output line of a case of whole numbers: the result of each part.
+fn whole_numbers(call: &str, parts: &[&str]) -> Result<String, String> {
+    let results = match (call, parts) {
+        ("quotient", _) => each(parts, |[dividend, divisor]| quotient(dividend, divisor)),
+        ("limit", _) => each(parts, |[number, lo, hi]| limited(number, lo, hi)),
+        ("size", _) => each(parts, |[number]| Ok(number.abs())),
+        ("square", _) => each(parts, |[slope, divisor]| quotient(slope * slope, divisor)),
+        ("operands", [part]) => operands(&bytes(part)?),
+        ("operands", _) => Err("`operands` has another number of parts".to_string()),
+        _ => Err(format!("no call is named `{call}`")),
+    };
+    Ok(listed(call, results?))
+}
+
+/// The result of each part, which has `COUNT` numbers.
+fn each<const COUNT: usize>(
+    parts: &[&str],
+    result: impl Fn([Whole; COUNT]) -> Result<Whole, String>,
+) -> Result<Vec<Whole>, String> {
+    let one = |part: &&str| {
+        let numbers: Vec<i64> = numbers(part)?;
+        let numbers: Vec<Whole> = numbers.into_iter().map(Whole::from).collect();
+        let numbers = numbers.try_into();
+        result(numbers.map_err(|_| format!("`{part}` has not {COUNT} numbers"))?)
+    };
+    parts.iter().map(one).collect()
+}
+
+/// The quotient rounded down, for divisors from 1.
+fn quotient(dividend: Whole, divisor: Whole) -> Result<Whole, String> {
+    if divisor < 1 {
+        return Err(format!("{divisor} is no divisor from 1"));
+    }
+    Ok(floor_div(dividend, divisor))
+}
+
+/// A number limited to `lo` and `hi`.
+fn limited(number: Whole, lo: Whole, hi: Whole) -> Result<Whole, String> {
+    if lo > hi {
+        return Err(format!("{lo} is above {hi}"));
+    }
+    Ok(number.clamp(lo, hi))
+}
+
+/// Four bytes as every operand that starts at the first of them, and the last two as a signed
+/// one: 1 byte, 2 bytes, 2 signed, the last 2 signed, 4 bytes, 4 signed.
+fn operands(bytes: &[u8]) -> Result<Vec<Whole>, String> {
+    let [first, second, third, fourth] = *bytes else {
+        return Err("`operands` has 4 bytes".to_string());
+    };
+    let (front, back) = ([first, second], [third, fourth]);
+    Ok(vec![
+        unsigned(&[first]),
+        unsigned(&front),
+        signed(&front),
+        signed(&back),
+        unsigned(bytes),
+        signed(bytes),
+    ])
 }
 
 /// The line of a refusal: its number, then what it carries.
@@ -142,12 +210,13 @@ pub fn bytes(text: &str) -> Result<Vec<u8>, String> {
     Ok(bytes)
 }
 
-/// 32-bit signed numbers with blanks between them.
-fn numbers(text: &str) -> Result<Vec<i32>, String> {
+/// Signed numbers of the type's width with blanks between them.
+fn numbers<T: FromStr>(text: &str) -> Result<Vec<T>, String> {
+    let bits = 8 * size_of::<T>();
     text.split_whitespace()
         .map(|word| {
             word.parse()
-                .map_err(|_| format!("`{word}` is not a 32-bit signed number"))
+                .map_err(|_| format!("`{word}` is not a {bits}-bit signed number"))
         })
         .collect()
 }

@@ -6,13 +6,26 @@ use crate::calls::{judge_multipliers, judge_plan, read, solve, Shown, Solved};
 use crate::generate::{case, Case, Kind};
 use crate::model::{Furnace, Whole};
 use crate::refusal::Refusal;
-use crate::tape::{MOST_INPUTS, MOST_STATES, MOST_STEPS};
+use crate::shapes::SHAPES;
+use crate::tape::{MOST_INPUTS, MOST_ROUNDS, MOST_STATES, MOST_STEPS};
 
-/// Rounds are counted in groups that end with these numbers; the last group has no end.
-const GROUP_ENDS: [u32; 7] = [1, 2, 5, 20, 100, 200, u32::MAX];
+/// Rounds are counted in groups, each with its last number and its name. The last group is the
+/// largest R alone.
+const GROUPS: [(u32, &str); 10] = [
+    (1, "1"),
+    (2, "2"),
+    (5, "3-5"),
+    (20, "6-20"),
+    (100, "21-100"),
+    (200, "101-200"),
+    (999, "201-999"),
+    (2_999, "1000-2999"),
+    (9_999, "3000-9999"),
+    (MOST_ROUNDS as u32, "10000"),
+];
 
-/// The names of the groups of rounds.
-const GROUP_NAMES: [&str; 7] = ["1", "2", "3-5", "6-20", "21-100", "101-200", "201+"];
+/// Counted with the shapes: an answer in the last round that R allows.
+const LAST_ROUND: &str = "in round R";
 
 /// Counts by heading, then by name, in the order in which they are printed.
 #[derive(Clone, Debug, Default, PartialEq, Eq)]
@@ -20,6 +33,9 @@ pub struct Counts {
     headings: Vec<(String, Vec<String>)>,
     counts: BTreeMap<(String, String), u64>,
 }
+
+/// The headings of the four calls.
+pub const CALLS: [&str; 4] = ["read", "judge plan", "judge multipliers", "solve"];
 
 impl Counts {
     /// The headings and names of all calls, with counts of 0.
@@ -43,11 +59,13 @@ impl Counts {
             let heading = |what: &str| format!("{answer}, {what}");
             // Round 0 has multipliers 0, whose floor is at most the ceiling: 'impossible' never
             // comes after 1 round.
-            let groups = &GROUP_NAMES[usize::from(answer == "impossible")..];
+            let groups = &GROUPS[usize::from(answer == "impossible")..];
             counts.expect(
                 &heading("rounds"),
-                groups.iter().map(|name| name.to_string()),
+                groups.iter().map(|(_, name)| name.to_string()),
             );
+            let shapes = SHAPES.iter().map(|(name, _)| *name).chain([LAST_ROUND]);
+            counts.expect(&heading("shape"), shapes.map(str::to_string));
             counts.expect(&heading("n"), up_to(MOST_STATES));
             counts.expect(&heading("m"), up_to(MOST_INPUTS));
             counts.expect(&heading("N"), up_to(MOST_STEPS));
@@ -82,13 +100,22 @@ impl Counts {
         }
     }
 
-    /// Counts a solve's answer by rounds and sizes.
+    /// Counts a solve's answer by rounds, sizes and shapes.
     fn add_rounds(&mut self, answer: &str, rounds: u32, furnace: &Furnace) {
-        let group = GROUP_ENDS.iter().take_while(|end| **end < rounds).count();
-        self.add(&format!("{answer}, rounds"), GROUP_NAMES[group]);
+        let group = GROUPS.iter().take_while(|(last, _)| *last < rounds).count();
+        self.add(&format!("{answer}, rounds"), GROUPS[group].1);
         self.add(&format!("{answer}, n"), &furnace.states.to_string());
         self.add(&format!("{answer}, m"), &furnace.inputs.to_string());
         self.add(&format!("{answer}, N"), &furnace.horizon.to_string());
+        let shape = format!("{answer}, shape");
+        for (name, has) in SHAPES {
+            if has(furnace) {
+                self.add(&shape, name);
+            }
+        }
+        if rounds == furnace.rounds {
+            self.add(&shape, LAST_ROUND);
+        }
     }
 
     /// Counts a generated tape by its kind.
@@ -146,17 +173,25 @@ impl Counts {
         }
     }
 
-    /// The headings and names with a count of 0.
-    pub fn zeros(&self) -> Vec<String> {
+    /// Fails where a count is 0.
+    pub fn require_all(&self) -> Result<(), String> {
+        self.require(|_| true)
+    }
+
+    /// Fails where a count under one of the headings is 0.
+    pub fn require(&self, wanted: impl Fn(&str) -> bool) -> Result<(), String> {
         let mut zeros = Vec::new();
         for (heading, names) in &self.headings {
             for name in names {
-                if self.count(heading, name) == 0 {
+                if wanted(heading) && self.count(heading, name) == 0 {
                     zeros.push(format!("{heading}: {name}"));
                 }
             }
         }
-        zeros
+        if zeros.is_empty() {
+            return Ok(());
+        }
+        Err(format!("these counts are 0: {}", zeros.join("; ")))
     }
 
     /// The count of a name under a heading.
@@ -164,15 +199,21 @@ impl Counts {
         self.counts[&(heading.to_string(), name.to_string())]
     }
 
-    /// All counts as a text, a heading a line.
+    /// All counts as a text: each heading, and its counts in a line.
     pub fn text(&self) -> String {
+        self.text_of(|_| true)
+    }
+
+    /// The counts under some headings as a text.
+    pub fn text_of(&self, wanted: impl Fn(&str) -> bool) -> String {
         let mut text = String::new();
         for (heading, names) in &self.headings {
-            let counts: Vec<String> = names
-                .iter()
-                .map(|name| format!("{name}: {}", self.count(heading, name)))
-                .collect();
-            text += &format!("{heading}\n    {}\n", counts.join(", "));
+            if wanted(heading) {
+                let counts = names.iter();
+                let counts = counts.map(|name| format!("{name}: {}", self.count(heading, name)));
+                let counts: Vec<String> = counts.collect();
+                text += &format!("{heading}\n    {}\n", counts.join(", "));
+            }
         }
         text
     }

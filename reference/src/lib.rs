@@ -5,8 +5,9 @@
 //! written as the paper writes them, and all whole numbers have 128 bits.
 //!
 //! The modules follow the paper's sections: [`model`], [`tape`], [`floor`], [`rounds`],
-//! [`calls`], [`refusal`] and [`slip`]. [`cases`] answers a text of test cases, [`generate`]
-//! makes tapes, plans and multipliers from a seed, and [`count`] counts what they lead to.
+//! [`calls`], [`refusal`] and [`mod@slip`]. [`cases`] answers a text of test cases, [`generate`]
+//! makes tapes, plans and multipliers from a seed, and [`count`] counts what they lead to, by
+//! rounds, sizes and [`shapes`].
 #![forbid(unsafe_code)]
 #![deny(missing_docs)]
 // The loops name the paper's indexes k, i and j.
@@ -20,6 +21,7 @@ pub mod generate;
 pub mod model;
 pub mod refusal;
 pub mod rounds;
+pub mod shapes;
 pub mod slip;
 pub mod tape;
 

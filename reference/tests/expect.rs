@@ -67,6 +67,21 @@ fn read_line_has_all_places() {
 }
 
 #[test]
+fn whole_numbers() {
+    let cases = "quotient -1 2 / 1 2 / -9223372036854775808 9223372036854775807\n\
+        limit -4 -3 9 / 10 -3 9 / 5 -3 9\n\
+        size 7 / -9223372036854775808\n\
+        square 9 2 / -9 2 / 9223372036854775807 1\n\
+        operands 01 80 FF 7F\n";
+    let expected = "quotient -1 0 -2\n\
+        limit -3 9 5\n\
+        size 7 9223372036854775808\n\
+        square 40 40 85070591730234615847396907784232501249\n\
+        operands 1 32769 -32767 32767 2147450881 2147450881\n";
+    assert_eq!(expect(cases).unwrap(), expected);
+}
+
+#[test]
 fn texts_that_are_no_cases() {
     let wrong = [
         "sovle 10 / / ",
@@ -78,6 +93,13 @@ fn texts_that_are_no_cases() {
         "show 10",
         "show 10 / 1.5",
         "show 10 / 2147483648",
+        "quotient 1 0",
+        "quotient 1 2 3",
+        "limit 1 3 2",
+        "size 9223372036854775808",
+        "size",
+        "operands 01 02 03",
+        "operands 01 02 03 04 / 05 06 07 08",
     ];
     for line in wrong {
         let error = expect(&format!("read 10\n{line}\n")).unwrap_err();

@@ -47,6 +47,32 @@ fn kinds_meant_to_be_accepted_are() {
 }
 
 #[test]
+fn late_tapes_end_late() {
+    let mut late = 0;
+    for seed in 0..500 {
+        let tape = tape(seed);
+        if tape.kind == Kind::Late {
+            let furnace = read(&tape.bytes).unwrap();
+            let mut plan = vec![0; furnace.plan_length()];
+            let mut multipliers = vec![0; furnace.multipliers_length()];
+            match solve(&tape.bytes, &mut plan, &mut multipliers) {
+                Ok(Solved::Proved { rounds, .. } | Solved::Impossible { rounds }) => {
+                    assert!(rounds >= 1_000, "seed {seed}");
+                }
+                // R may be a round too few.
+                answer => {
+                    let rounds = furnace.rounds;
+                    assert_eq!(answer, Err(Refusal::Open { rounds }), "seed {seed}");
+                    assert!(rounds >= 999, "seed {seed}");
+                }
+            }
+            late += 1;
+        }
+    }
+    assert!(late > 0);
+}
+
+#[test]
 fn judging_what_a_solve_wrote() {
     for seed in SEEDS {
         let case = case(seed);

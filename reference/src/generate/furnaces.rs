@@ -22,7 +22,7 @@ fn blank(random: &mut Random) -> Furnace {
 }
 
 /// [`blank`] of the given sizes.
-fn sized(states: usize, inputs: usize, horizon: usize) -> Furnace {
+pub(super) fn sized(states: usize, inputs: usize, horizon: usize) -> Furnace {
     let column = Column {
         lo: 0,
         hi: 0,
@@ -123,7 +123,7 @@ pub fn limits(random: &mut Random) -> Furnace {
 }
 
 /// A furnace that stays near its references under its reference inputs, as real ones do.
-fn near_rest(random: &mut Random) -> Furnace {
+pub(super) fn near_rest(random: &mut Random) -> Furnace {
     let furnace = blank(random);
     put_near_rest(furnace, random)
 }
@@ -137,8 +137,22 @@ pub fn largest(random: &mut Random) -> Furnace {
 }
 
 /// A blank furnace with the numbers of one near rest.
-fn put_near_rest(mut furnace: Furnace, random: &mut Random) -> Furnace {
+pub(super) fn put_near_rest(mut furnace: Furnace, random: &mut Random) -> Furnace {
     let deviation = random.choose(&[2, 10, 40, 150, 400]);
+    put_columns(&mut furnace, random, deviation);
+    put_entries(&mut furnace, random);
+    put_at_rest(&mut furnace, random, deviation);
+    if random.one_in(5) {
+        // A reference outside its limits.
+        let place = random.below(furnace.columns.len());
+        let column = &mut furnace.columns[place];
+        column.reference = column.hi + random.between(1, deviation);
+    }
+    furnace
+}
+
+/// References of moderate size, and limits around them: those of states about `deviation` away.
+fn put_columns(furnace: &mut Furnace, random: &mut Random, deviation: Whole) {
     let most_weight = random.choose(&[1, 4, 20, MOST_WEIGHT]);
     let input_span = random.choose(&[10, 40, 200, 1000]);
     for place in 0..furnace.states + furnace.inputs {
@@ -152,6 +166,10 @@ fn put_near_rest(mut furnace: Furnace, random: &mut Random) -> Furnace {
             weight: random.between(1, most_weight),
         };
     }
+}
+
+/// States that hardly move by themselves, and inputs that each heat some of them.
+fn put_entries(furnace: &mut Furnace, random: &mut Random) {
     for i in 0..furnace.states {
         for j in 0..furnace.states {
             if i == j {
@@ -168,27 +186,28 @@ fn put_near_rest(mut furnace: Furnace, random: &mut Random) -> Furnace {
             }
         }
     }
+}
+
+/// The drift that keeps the references at rest with a disturbance, and a start near them.
+pub(super) fn put_at_rest(furnace: &mut Furnace, random: &mut Random, deviation: Whole) {
     for i in 0..furnace.states {
-        // The drift that keeps the references at rest, and a disturbance.
-        let mut drift = UNIT * furnace.columns[i].reference;
-        for j in 0..furnace.states {
-            drift -= furnace.a[i][j] * furnace.columns[j].reference;
-        }
-        for j in 0..furnace.inputs {
-            drift -= furnace.b[i][j] * furnace.input_column(j).reference;
-        }
-        drift += random.between(-300, 300) * deviation;
+        let drift = rest_drift(furnace, i) + random.between(-300, 300) * deviation;
         furnace.drift[i] = drift.clamp(-DRIFT_RANGE, DRIFT_RANGE);
         let start = furnace.columns[i].reference + random.between(-deviation, deviation);
         furnace.start[i] = start.clamp(-NUMBER_RANGE, NUMBER_RANGE);
     }
-    if random.one_in(5) {
-        // A reference outside its limits.
-        let place = random.below(furnace.columns.len());
-        let column = &mut furnace.columns[place];
-        column.reference = column.hi + random.between(1, deviation);
+}
+
+/// The drift of state i under which its reference follows from all references.
+pub(super) fn rest_drift(furnace: &Furnace, i: usize) -> Whole {
+    let mut drift = UNIT * furnace.columns[i].reference;
+    for j in 0..furnace.states {
+        drift -= furnace.a[i][j] * furnace.columns[j].reference;
     }
-    furnace
+    for j in 0..furnace.inputs {
+        drift -= furnace.b[i][j] * furnace.input_column(j).reference;
+    }
+    drift
 }
 
 /// The step size at which the rounds surely converge, times `numerator` / `denominator`. It is
@@ -250,7 +269,7 @@ pub fn trial(furnace: &Furnace, most: u32) -> Trial {
 
 /// R for an answer that comes in round `rounds`: mostly enough, some exactly enough, some one
 /// too few.
-fn rounds_around(random: &mut Random, rounds: u32) -> u32 {
+pub(super) fn rounds_around(random: &mut Random, rounds: u32) -> u32 {
     match random.below(8) {
         0 if rounds > 1 => rounds - 1,
         1 | 2 => rounds,
@@ -258,10 +277,18 @@ fn rounds_around(random: &mut Random, rounds: u32) -> u32 {
     }
 }
 
-/// A furnace whose rounds mostly end with 'proved': T is the gap of a round of a trial.
+/// A furnace whose rounds mostly end with 'proved'.
 pub fn proved(random: &mut Random) -> Furnace {
+    tuned_to_prove(random, near_rest)
+}
+
+/// A furnace of `make` whose rounds mostly end with 'proved': T is the gap of a round of a trial.
+pub(super) fn tuned_to_prove(
+    random: &mut Random,
+    make: impl Fn(&mut Random) -> Furnace,
+) -> Furnace {
     let target = random.choose(&[2, 3, 5, 10, 20, 50, 100, 200, 300, 400]);
-    let mut furnace = near_rest(random);
+    let mut furnace = make(random);
     for _attempt in 0..6 {
         // Small steps lower the gap for more rounds.
         let (numerator, denominator) = if target < 50 {
@@ -286,14 +313,14 @@ pub fn proved(random: &mut Random) -> Furnace {
             }
             return furnace;
         }
-        furnace = near_rest(random);
+        furnace = make(random);
     }
     furnace
 }
 
 /// Moves the limits of one state out of reach: above the highest, or below the lowest, that the
 /// model gives it in some step.
-fn put_out_of_reach(furnace: &mut Furnace, random: &mut Random, margin: Whole) {
+pub(super) fn put_out_of_reach(furnace: &mut Furnace, random: &mut Random, margin: Whole) {
     let i = random.below(furnace.states);
     let upwards = random.one_in(2);
     let step = random.below(furnace.horizon);
@@ -341,13 +368,25 @@ fn reach(furnace: &Furnace, lowest: &[Whole], highest: &[Whole], i: usize) -> (W
 
 /// A furnace whose rounds mostly end with 'impossible'.
 pub fn impossible(random: &mut Random) -> Furnace {
+    tuned_to_fail(random, |random, margin| {
+        let mut furnace = near_rest(random);
+        put_out_of_reach(&mut furnace, random, margin);
+        furnace
+    })
+}
+
+/// A furnace of `make`, which is told how far out of reach it should be, whose rounds mostly end
+/// with 'impossible'.
+pub(super) fn tuned_to_fail(
+    random: &mut Random,
+    make: impl Fn(&mut Random, Whole) -> Furnace,
+) -> Furnace {
     let most = random.choose(&[5, 20, 60, 150, 300]);
     let mut attempt = 0;
     loop {
-        let mut furnace = near_rest(random);
         // Later attempts are further out of reach and take larger steps.
         let margin = random.choose(&[1, 4, 20, 100, 300]) << attempt;
-        put_out_of_reach(&mut furnace, random, margin);
+        let mut furnace = make(random, margin);
         let (numerator, denominator) =
             random.choose(&[(8, 1), (4, 1), (1, 1), (1, 4), (1, 16), (1, 64)]);
         furnace.step_size = tuned_step_size(&furnace, numerator << attempt, denominator);

@@ -5,8 +5,10 @@
 pub mod commands;
 pub mod damage;
 pub mod furnaces;
+pub mod late;
 pub mod lent;
 pub mod random;
+pub mod rare;
 
 pub use lent::Lent;
 pub use random::Random;
@@ -25,6 +27,10 @@ pub enum Kind {
     Proved,
     /// Accepted, tuned to end with 'impossible'.
     Impossible,
+    /// Accepted, of a shape that the kinds above hardly have, tuned to end with either.
+    Rare,
+    /// Accepted, tuned to end with either after 1,000 rounds or more.
+    Late,
     /// A tape of the kinds above with damages. Some are still accepted.
     Damaged,
     /// Bytes that are hardly a tape.
@@ -33,11 +39,13 @@ pub enum Kind {
 
 impl Kind {
     /// All kinds.
-    pub const ALL: [Kind; 6] = [
+    pub const ALL: [Kind; 8] = [
         Kind::Plain,
         Kind::Limits,
         Kind::Proved,
         Kind::Impossible,
+        Kind::Rare,
+        Kind::Late,
         Kind::Damaged,
         Kind::Noise,
     ];
@@ -90,21 +98,36 @@ pub fn case(seed: u64) -> Case {
     }
 }
 
+/// The kind of a seed's tape, which is not made for it.
+pub fn kind(seed: u64) -> Kind {
+    kind_from(&mut Random::new(seed))
+}
+
+/// The kind of the next tape of a generator.
+fn kind_from(random: &mut Random) -> Kind {
+    // Late ones are few: each costs as much as a hundred others.
+    match random.below(200) {
+        0..=29 => Kind::Plain,
+        30..=39 => Kind::Limits,
+        40..=89 => Kind::Proved,
+        90..=124 => Kind::Impossible,
+        125..=137 => Kind::Rare,
+        138..=139 => Kind::Late,
+        140..=189 => Kind::Damaged,
+        _ => Kind::Noise,
+    }
+}
+
 /// The next tape of a generator.
 fn tape_from(random: &mut Random) -> GeneratedTape {
-    let kind = match random.below(20) {
-        0..=2 => Kind::Plain,
-        3 => Kind::Limits,
-        4..=9 => Kind::Proved,
-        10..=13 => Kind::Impossible,
-        14..=18 => Kind::Damaged,
-        _ => Kind::Noise,
-    };
+    let kind = kind_from(random);
     let bytes = match kind {
         Kind::Plain => whole(&furnaces::plain(random), random),
         Kind::Limits => whole(&furnaces::limits(random), random),
         Kind::Proved => whole(&furnaces::proved(random), random),
         Kind::Impossible => whole(&furnaces::impossible(random), random),
+        Kind::Rare => whole(&rare::any(random), random),
+        Kind::Late => whole(&late::any(random), random),
         Kind::Damaged => {
             let furnace = match random.below(4) {
                 0 => furnaces::limits(random),

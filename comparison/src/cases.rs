@@ -1,0 +1,111 @@
+//! The case of a seed through all calls.
+
+use reference::calls::Solved;
+use reference::count::refused;
+use reference::generate::commands::of_furnace;
+use reference::generate::lent::any_values;
+use reference::generate::{case, Lent, Random};
+use reference::model::Furnace;
+use reference::refusal::Refusal;
+
+use crate::calls::{Answer, Call, Lending};
+use crate::comparison::{Comparison, CUT, JUDGED};
+use crate::guard::GUARD;
+use crate::tune;
+
+/// One generated tape in so many is printed by the slip program too: a process costs more than
+/// many calls.
+const SLIP_ONE_IN: u64 = 10;
+
+impl Comparison {
+    /// A seed's case through all calls.
+    pub fn add_case(&mut self, seed: u64) {
+        let case = case(seed);
+        let tape = &case.tape.bytes;
+        self.counts.add_tape(case.tape.kind);
+        let lending = Lending::new("a generated tape", tape, &[], &[]);
+        let (Answer::Read(furnace), _) = self.call(Call::Read, &lending) else {
+            unreachable!("reading gives its own answer");
+        };
+        self.counts.add_read(&furnace);
+        for lent in &case.judged {
+            self.judge(tape, lent);
+        }
+        // The slices' draws are the case's, these are the comparison's.
+        let mut random = Random::new(!seed);
+        let mut open = false;
+        for lent in &case.solved {
+            let solved = self.solve(tape, lent);
+            self.counts.add_solved(solved, &furnace);
+            open |= matches!(solved, Err(Refusal::Open { .. }));
+        }
+        self.cut(tape, &case.solved[0], &mut random);
+        if let (true, Ok(furnace)) = (open, &furnace) {
+            self.add_open(furnace, &mut random);
+        }
+        if seed.is_multiple_of(SLIP_ONE_IN) {
+            self.print(&[tape]);
+        }
+    }
+
+    /// Solves the variants of an open tape.
+    fn add_open(&mut self, open: &Furnace, random: &mut Random) {
+        let variants = tune::variants(open, random);
+        let ended = variants.iter().any(|(name, _)| *name != tune::ROUNDS_CUT);
+        self.open_unchanged += u64::from(!ended);
+        for (name, furnace) in variants {
+            let tape = of_furnace(&furnace, random).concat();
+            let (plan, multipliers) = (furnace.plan_length(), furnace.multipliers_length());
+            let mut lent = any_values(plan, multipliers, random);
+            lent.origin = name;
+            let solved = self.solve(&tape, &lent);
+            self.counts.add(name, &solve_name(solved));
+        }
+    }
+
+    /// Judges a plan with its multipliers, and the multipliers alone.
+    fn judge(&mut self, tape: &[u8], lent: &Lent) {
+        let lending = Lending::of(lent, tape);
+        if let (Answer::Gap(gap), _) = self.call(Call::JudgePlan, &lending) {
+            self.counts.add_gap(gap);
+        }
+        if let (Answer::Shown(shown), _) = self.call(Call::JudgeMultipliers, &lending) {
+            self.counts.add_shown(shown);
+        }
+    }
+
+    /// Solves, and judges what the solve left, whatever its answer.
+    fn solve(&mut self, tape: &[u8], lent: &Lent) -> Result<Solved, Refusal> {
+        let (answer, left) = self.call(Call::Solve, &Lending::of(lent, tape));
+        let lending = Lending::new(JUDGED, tape, &left.plan, &left.multipliers);
+        self.also(Call::JudgePlan, &lending);
+        self.also(Call::JudgeMultipliers, &lending);
+        match answer {
+            Answer::Solved(solved) => solved,
+            _ => unreachable!("solving gives its own answer"),
+        }
+    }
+
+    /// All calls with a front of the tape; what follows it in memory is the tape's rest.
+    fn cut(&mut self, tape: &[u8], lent: &Lent, random: &mut Random) {
+        let (front, rest) = tape.split_at(random.below(tape.len() + 1));
+        let behind = [rest, &[0; GUARD]].concat();
+        for call in Call::ALL {
+            let lending = Lending {
+                origin: CUT,
+                behind: &behind,
+                ..Lending::of(lent, front)
+            };
+            self.also(call, &lending);
+        }
+    }
+}
+
+/// The name of a solve's answer in the counts.
+fn solve_name(solved: Result<Solved, Refusal>) -> String {
+    match solved {
+        Ok(Solved::Proved { .. }) => "proved".to_string(),
+        Ok(Solved::Impossible { .. }) => "impossible".to_string(),
+        Err(refusal) => refused(refusal.number()),
+    }
+}

@@ -1,0 +1,179 @@
+//! Calls and slips on both sides, and what was tried so far.
+
+use std::fmt::Debug;
+use std::path::PathBuf;
+
+use reference::count::{answers, Counts};
+use reference::slip as slip_text;
+
+use crate::calls::{by_planner, by_reference, Answer, Call, Left, Lending};
+use crate::guard::Beside;
+use crate::part::Part;
+use crate::{slip, tune, wrapper};
+
+/// A comparison ends soon after so many differences, and prints no more of them.
+const MOST_DIFFERENCES: u64 = 5;
+
+/// Longer inputs, which only the slip program gets, are printed in part.
+const MOST_PRINTED: usize = 700;
+
+/// The heading of calls that are counted apart from the generated cases.
+const ALSO: &str = "also";
+/// Of [`ALSO`]: a generated tape cut short, with its rest behind it.
+pub const CUT: &str = "tape cut, its rest behind it";
+/// Of [`ALSO`]: what a solve left is judged.
+pub const JUDGED: &str = "judged what a solve left";
+/// Of [`ALSO`]: tapes of every length.
+pub const TAPE_LENGTHS: &str = "tape lengths";
+/// Of [`ALSO`]: plans of every length.
+pub const PLAN_LENGTHS: &str = "plan lengths";
+/// Of [`ALSO`]: multipliers of every length.
+pub const MULTIPLIER_LENGTHS: &str = "multiplier lengths";
+/// Of [`ALSO`]: multipliers whose floor is the ceiling.
+pub const EQUAL: &str = "floor equal to ceiling";
+
+/// What has been compared so far.
+pub struct Comparison {
+    /// What was tried.
+    pub counts: Counts,
+    /// The part that is being compared.
+    pub part: Part,
+    /// Open tapes of which no change ends.
+    pub open_unchanged: u64,
+    /// The slip program; without it slips are not compared.
+    slip: Option<PathBuf>,
+    beside: Beside,
+    calls: u64,
+    differences: u64,
+}
+
+impl Comparison {
+    /// Nothing compared yet.
+    pub fn new(beside: Beside, slip: Option<PathBuf>) -> Comparison {
+        let mut counts = Counts::of_calls();
+        counts.expect(tune::ROUNDS_CUT, answers(&[], &[15]));
+        counts.expect(tune::GAP_RAISED, answers(&["proved"], &[]));
+        counts.expect(tune::LIMITS_NARROWED, answers(&["impossible"], &[]));
+        let also = [
+            CUT,
+            JUDGED,
+            TAPE_LENGTHS,
+            PLAN_LENGTHS,
+            MULTIPLIER_LENGTHS,
+            EQUAL,
+        ];
+        counts.expect(ALSO, also.map(str::to_string));
+        let refusals = [1, 2, 3, 4, 5, 6, 7, 8];
+        counts.expect(
+            "slip",
+            answers(&["proved", "impossible", "open"], &refusals),
+        );
+        Comparison {
+            counts,
+            part: Part::Case(0),
+            open_unchanged: 0,
+            slip,
+            beside,
+            calls: 0,
+            differences: 0,
+        }
+    }
+
+    /// Makes a call on both sides and compares all that it leaves.
+    pub fn call(&mut self, call: Call, lending: &Lending) -> (Answer, Left) {
+        let (answer, expected) = by_reference(call, lending);
+        let found = by_planner(call, lending, self.beside);
+        self.calls += 1;
+        if found != expected {
+            self.differ(&format!("{call:?}"), lending, &found, &expected);
+        } else if let Some(found) = wrapper::difference(call, lending, &answer, &expected) {
+            self.differ(&format!("{call:?}, wrapper"), lending, &found, &expected);
+        }
+        (answer, expected)
+    }
+
+    /// Makes a call that is counted under [`ALSO`], by the origin of what is lent.
+    pub fn also(&mut self, call: Call, lending: &Lending) {
+        self.counts.add(ALSO, lending.origin);
+        self.call(call, lending);
+    }
+
+    /// Compares the slip program's text for an input that it gets in parts.
+    pub fn print(&mut self, parts: &[&[u8]]) {
+        let Some(program) = &self.slip else {
+            return;
+        };
+        let input = parts.concat();
+        let expected = slip_text(&input);
+        let found = slip::print(program, parts);
+        self.counts.add("slip", &slip_name(&expected));
+        if found.as_ref() != Ok(&expected) {
+            let lending = Lending::new("input of the slip program", &input, &[], &[]);
+            self.differ("slip", &lending, &found, &expected);
+        }
+    }
+
+    /// Prints a difference.
+    fn differ(
+        &mut self,
+        call: &str,
+        lending: &Lending,
+        planner: &dyn Debug,
+        reference: &dyn Debug,
+    ) {
+        self.differences += 1;
+        if self.differences > MOST_DIFFERENCES {
+            return;
+        }
+        println!("DIFFERENCE in {call}, {}", self.part.origin());
+        println!("lent: {}", lending.origin);
+        println!("tape {}", hex(lending.tape));
+        println!("behind the tape {}", hex(lending.behind));
+        println!("plan lent {:?}", lending.plan);
+        println!("multipliers lent {:?}", lending.multipliers);
+        println!("planner   {planner:?}");
+        println!("reference {reference:?}");
+    }
+
+    /// Have there been enough differences?
+    pub fn ends(&self) -> bool {
+        self.differences >= MOST_DIFFERENCES
+    }
+
+    /// What was compared, in a few words.
+    pub fn summary(&self) -> String {
+        let Comparison {
+            calls, differences, ..
+        } = self;
+        format!("{calls} calls on both sides, {differences} differences")
+    }
+
+    /// Fails where something differed.
+    pub fn verdict(&self) -> Result<(), String> {
+        if self.differences > 0 {
+            return Err("the planner and the second program differ".to_string());
+        }
+        Ok(())
+    }
+}
+
+/// The name of a slip in the counts: its first line up to the refusal's number.
+fn slip_name(text: &str) -> String {
+    let words: Vec<&str> = text.split_whitespace().collect();
+    match words.as_slice() {
+        ["refused", number, ..] => format!("refused {number}"),
+        [kind, ..] => kind.to_string(),
+        [] => String::new(),
+    }
+}
+
+/// Bytes as hexadecimal digits.
+fn hex(bytes: &[u8]) -> String {
+    let printed = bytes.len().min(MOST_PRINTED);
+    let digits = bytes[..printed].iter().map(|byte| format!("{byte:02X}"));
+    let mut text: String = digits.collect();
+    if printed < bytes.len() {
+        text += &format!(".. ({} bytes)", bytes.len());
+    }
+    text
+}

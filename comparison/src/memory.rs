@@ -1,0 +1,25 @@
+//! The command `memory`.
+
+use reference::count::CALLS;
+use reference::generate::{kind, Kind};
+
+use crate::comparison::Comparison;
+use crate::guard::Beside;
+use crate::part::Part;
+
+/// Compares the cases of `count` seeds with nothing beside what is lent. To be run under valgrind,
+/// which is slow: late tapes, edges and slips are left out. Fails where something differs, or
+/// where a call's answer or one of its refusals was never met.
+pub fn memory(count: u64, first_seed: u64) -> Result<(), String> {
+    let mut comparison = Comparison::new(Beside::Nothing, None);
+    let seeds = (0..count).map(|place| first_seed.wrapping_add(place));
+    for seed in seeds.filter(|seed| kind(*seed) != Kind::Late) {
+        comparison.part = Part::Case(seed);
+        comparison.add_case(seed);
+    }
+    let of_calls = |heading: &str| CALLS.contains(&heading);
+    print!("{}", comparison.counts.text_of(of_calls));
+    println!("{}", comparison.summary());
+    comparison.verdict()?;
+    comparison.counts.require(of_calls)
+}

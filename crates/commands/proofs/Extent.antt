@@ -1,7 +1,7 @@
--- How far commands reach: the bytes of each, and that bytes behind a command change nothing.
+-- How far commands reach: place and bytes of each, and that bytes behind a command change nothing.
 use Prim.Native.Nat.{ℕ, _+_, _<_, _≤_}
 use mathlib.Core.Path.{_≡_, refl}
-use mathlib.Core.List.{List, [], _++_}
+use mathlib.Core.List.{List, _++_}
 use native.Mathlib.Omega.{arith}
 use lib.ListN.{length, length-append, List·getD-append}
 use borrow.Author.Tests.{lt-ltb, le-ltb, lt-leb}
@@ -13,10 +13,26 @@ use Rattle.commands.specs.declared.Entry.{Entry}
 use Rattle.commands.specs.declared.Entry.the-variants.{State, Input, Drift, Column, Start, Rounds}
 use Rattle.commands.specs.Format.{whole, sizeCommand, stateCommand, inputCommand, driftCommand, columnCommand, startCommand, roundsCommand, decoded}
 use Rattle.commands.specs.Format.{bytesOf, placeOf}
-use Rattle.commands.specs.Marks.{driftPlace, columnPlace, startPlace, roundsPlace, bytesAt, longestBytes, mostBytes, decidingBytes}
+use Rattle.commands.specs.Marks.{driftPlace, columnPlace, startPlace, roundsPlace, placeCount, bytesAt, longestBytes, mostBytes, decidingBytes}
 use Rattle.commands.proofs.Tests.{Inside}
 
--- ---- The bytes of a command, by its place
+-- ---- A command's place and its bytes
+
+pub place-below : (e : Entry) → Inside e → placeOf e < placeCount
+place-below (State i j v) h = omega arith
+place-below (Input i j v) h = omega arith
+place-below (Drift i v) h = omega arith
+place-below (Column c lo hi r w) h = omega arith
+place-below (Start i v) h = omega arith
+place-below (Rounds g rounds t) h = omega arith
+
+pub some-bytes : (e : Entry) → 1 ≤ bytesOf e
+some-bytes (State i j v) = omega arith
+some-bytes (Input i j v) = omega arith
+some-bytes (Drift i v) = omega arith
+some-bytes (Column c lo hi r h) = omega arith
+some-bytes (Start i v) = omega arith
+some-bytes (Rounds g rounds t) = omega arith
 
 pub bytes-at : (e : Entry) → Inside e → bytesAt (placeOf e) ≡ bytesOf e
 unfolding bytesAt
@@ -67,7 +83,15 @@ module _ (xs ys : List ℕ) (at : ℕ) (room : at + longestBytes ≤ length xs) 
 
   column-same : columnCommand (xs ++ ys) at ≡ columnCommand xs at
   unfolding columnCommand
-  column-same = whole-same 8 (omega arith) (rw (operand-same 1 1 (omega arith), operand-same 2 2 (omega arith), operand-same 2 4 (omega arith), operand-same 2 6 (omega arith), operand-same 1 8 (omega arith)))
+  column-same =
+      whole-same 8 (omega arith)
+      (rw (
+        operand-same 1 1 (omega arith),
+        operand-same 2 2 (omega arith),
+        operand-same 2 4 (omega arith),
+        operand-same 2 6 (omega arith),
+        operand-same 1 8 (omega arith),
+      ))
 
   start-same : startCommand (xs ++ ys) at ≡ startCommand xs at
   unfolding startCommand

@@ -12,10 +12,9 @@ use Rattle.commands.specs.declared.Command.{Command}
 use Rattle.commands.specs.declared.Command.the-variants.{Cut}
 use Rattle.commands.specs.declared.Entry.{Entry}
 use Rattle.commands.specs.declared.Entry.the-variants.{State, Input, Drift, Column, Start, Rounds}
-use Rattle.commands.specs.Format.{whole}
-use Rattle.commands.specs.Format.{beyond, among, required}
+use Rattle.commands.specs.Format.{whole, beyond, among, required}
 use Rattle.commands.specs.Marks.{columnPlace, startPlace, roundsPlace}
-use Rattle.commands.specs.Room.{Small}
+use Rattle.commands.specs.Room.{SmallSizes}
 
 -- ---- A command of k operand bytes
 
@@ -35,7 +34,7 @@ Inside (Column c lo hi r h) = c < 10
 Inside (Start i v) = i < 6
 Inside (Rounds g rounds t) = Unit {0}
 
-pub inside : (n m horizon : ℕ) (e : Entry) → Small n m horizon → beyond n m horizon e ≡ false → Inside e
+pub inside : (n m horizon : ℕ) (e : Entry) → SmallSizes n m horizon → beyond n m horizon e ≡ false → Inside e
 unfolding beyond
 inside n m horizon (State i j v) h e = let t = none (leb n i) (leb n j ∷ []) e in omega (arith, leb-false)
 inside n m horizon (Input i j v) h e = let t = none (leb n i) (leb m j ∷ []) e in omega (arith, leb-false)

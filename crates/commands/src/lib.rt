@@ -8,7 +8,7 @@ ghost use mathlib.Core.Bool.{false};
 ghost use lib.ListN.{length};
 ghost use Rattle.commands.specs.Format.{sizeCommand, stateCommand, inputCommand, driftCommand, columnCommand, startCommand, roundsCommand, decoded, wrongSize, wrongColumn, beyond, wrong, placeOf, among, required, bytesOf};
 ghost use Rattle.commands.specs.Marks.{placeCount};
-ghost use Rattle.commands.specs.Room.{Room, Small};
+ghost use Rattle.commands.specs.Room.{Room, SmallSizes};
 use crate::mark::COLUMN_PLACE;
 use crate::mark::DRIFT_PLACE;
 use crate::mark::INPUT_PLACE;
@@ -165,7 +165,7 @@ fn is_wrong_column(low: i64, high: i64, reference: i64, weight: i64) -> bool
 
 // Test 4: an index outside the size.
 pub fn is_beyond(entry: Entry, n: usize, m: usize, horizon: usize) -> bool
-    requires { ⌜ Small n m horizon ⌝ }
+    requires { ⌜ SmallSizes n m horizon ⌝ }
     ensures { λ r. ⌜ r ≡ beyond n m horizon entry ⌝ }
 {
     match entry {
@@ -199,7 +199,7 @@ pub fn is_wrong(entry: Entry) -> bool
 
 // Test 6 looks at the mark of the entry's place.
 pub fn place_of(entry: Entry, n: usize, m: usize, horizon: usize) -> usize
-    requires { ⌜ Small n m horizon × (beyond n m horizon entry ≡ false) ⌝ }
+    requires { ⌜ SmallSizes n m horizon × (beyond n m horizon entry ≡ false) ⌝ }
     ensures { λ r. ⌜ (r ≡ placeOf entry) × (r < placeCount) ⌝ }
 {
     match entry {
@@ -221,7 +221,7 @@ fn is_among(place: usize, p: usize, count: usize) -> bool
 
 // Test 7 asks for the marks of these places.
 pub fn is_required(place: usize, n: usize, m: usize, horizon: usize) -> bool
-    requires { ⌜ Small n m horizon ⌝ }
+    requires { ⌜ SmallSizes n m horizon ⌝ }
     ensures { λ r. ⌜ r ≡ required n m horizon place ⌝ }
 {
     is_among(place, COLUMN_PLACE, n + m)

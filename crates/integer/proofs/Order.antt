@@ -1,7 +1,7 @@
 -- The order of ℤ. A linear fact from hypotheses is one line, `omega (arith, order, plus a b, ..)`: `order` lets omega read and prove
 -- `≼`, `≺` and `≡` of whole numbers and read the tests `ltZ a b ≡ true` and the like; the list has `plus a b` for each sum,
 -- `minus a b` for each difference and `negated a` for each negation that occurs. A product counts as a number of its own.
-use Prim.Native.Nat.{ℕ, suc, _+_, _*_, _<_, _≤_}
+use Prim.Native.Nat.{ℕ, suc, _+_, _<_, _≤_}
 use mathlib.Core.Path.{_≡_, refl, subst, subst⁻¹}
 use mathlib.Core.Logic.{_⊎_, inl, inr}
 use mathlib.Core.Bool.{Bool, true, false}

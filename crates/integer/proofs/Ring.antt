@@ -1,7 +1,7 @@
 -- Identities of polynomials, by reflection: `ring 2 (λ a b. a ⊗ b ≐ b ⊗ a) tt x y : x *ℤ y ≡ y *ℤ x`. An identity is quoted as a
 -- function of its variables, and both sides are multiplied out: a list of terms, each a coefficient with its variables in
 -- order. The sides agree where every coefficient of their difference is 0, which `tt` says when the check computes to true.
-use Prim.Native.Nat.{ℕ, zero, suc, _+_, _*_}
+use Prim.Native.Nat.{ℕ, zero, suc, _*_}
 use mathlib.Core.Path.{_≡_, refl, sym, _∙_, ap, ap₂}
 use mathlib.Core.Bool.{Bool, true, false, cond, _&&_}
 use mathlib.Core.List.{List, [], _∷_}

@@ -8,6 +8,7 @@ use lib.IntN.{ℤ, _-ℤ_}
 use lib.Signed.{ltZ}
 use Rattle.integer.proofs.Operand.{Bytes}
 use Rattle.integer.proofs.Tests.{by-test}
+use Rattle.commands.proofs.Extent.{deciding-bytes}
 use Rattle.tape.specs.declared.Answer.{Answer}
 use Rattle.tape.specs.declared.Answer.the-variants as answer
 use Rattle.tape.specs.declared.Tape.{Tape}
@@ -71,7 +72,7 @@ SmallRead (answer.Refused why) = Small why
 
 from-tape : (a : Answer) → Carrying a → SmallRead a
 from-tape answer.Accepted h = tt
-from-tape (answer.Refused why) h = omega arith
+from-tape (answer.Refused why) h = omega (arith, deciding-bytes)
 
 pub small-read : (s : List ℕ) → SmallRead (reading s .answer)
 small-read s = from-tape (reading s .answer) (carrying s)

@@ -1,6 +1,6 @@
 -- A bounded number of bytes decides every tape: accepted commands end within `mostBytes`, and none has more than `longestBytes`.
 use Prim.Native.Nat.{ℕ, zero, suc, _+_, _<_, _≤_}
-use mathlib.Core.Path.{_≡_, refl, sym, ap, _∙_}
+use mathlib.Core.Path.{_≡_, refl, sym, ap, subst, _∙_}
 use mathlib.Core.Logic.{⊎-elim}
 use mathlib.Core.List.{List, _++_}
 use native.Mathlib.Omega.{arith}
@@ -13,23 +13,13 @@ use Rattle.commands.specs.declared.Command.the-variants as command
 use Rattle.commands.specs.Format.{decoded}
 use Rattle.commands.specs.Marks.{mostBytes, decidingBytes}
 use Rattle.commands.proofs.Extent.{decoded-front}
-use Rattle.tape.specs.declared.Reading.{Reading}
-use Rattle.tape.specs.declared.Tape.{Tape}
 use Rattle.tape.specs.declared.reader.Reader.{Reader}
 use Rattle.tape.specs.declared.reader.Verdict.{Verdict}
-use Rattle.tape.specs.declared.reader.Verdict.the-variants.{Going, Ended, Refused}
-use Rattle.tape.specs.Reading.{obeyEnd, obey, next, outcome, readFrom, opened, reading}
-use Rattle.tape.proofs.Steps.{SmallTape, small-opened, small-next}
+use Rattle.tape.specs.Reading.{obeyEnd, obey, next, readFrom, opened, reading}
+use Rattle.tape.proofs.Steps.{SmallTape, small-opened, small-next, outcome-same}
 use Rattle.tape.proofs.Offsets.{Near, near-opened, Stays, next-stays}
 
--- where the reading goes on, it goes on within the bytes that decide
-outcome-same : (v : Verdict) (t : Tape) (x y : Reading) {from : ℕ} {r : Reader} → Stays from v r → (from < r .at → Near r → x ≡ y) →
-    outcome v t x ≡ outcome v t y
-outcome-same Going t x y h f = f (h .0) (h .1)
-outcome-same Ended t x y h f = refl
-outcome-same (Refused why) t x y h f = refl
-
--- ys behind the bytes that decide
+-- xs holds the bytes that decide, and ys follows
 module _ (xs ys : List ℕ) (enough : decidingBytes ≤ length xs) where
   obey-same : (c : Command) (q : Reader) → q .at ≤ mostBytes → obey c (xs ++ ys) q ≡ obey c xs q
   unfolding obey obeyEnd decidingBytes
@@ -60,8 +50,10 @@ module _ (xs ys : List ℕ) (enough : decidingBytes ≤ length xs) where
   read-same (suc left) (suc more) q l h small n =
       let r = next xs q in
       rw (next-same q (omega (arith, n .reach)))
-      (outcome-same (r .verdict) (r .tape) (readFrom (xs ++ ys) more r) (readFrom xs left r) (next-stays xs q small n)
-      (λ m k. read-same left more r (omega arith) (omega arith) (small-next xs q small) k))
+      (outcome-same (r .verdict) (r .tape) (readFrom (xs ++ ys) more r) (readFrom xs left r)
+      (λ g.
+      let k = subst (λ (v : Verdict). Stays (q .at) v r) g (next-stays xs q small n) in
+      read-same left more r (omega arith) (omega (arith, k .0)) (small-next xs q small) (k .1)))
 
   front-decides : reading xs ≡ reading (xs ++ ys)
   unfolding reading

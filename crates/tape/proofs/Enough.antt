@@ -6,24 +6,12 @@ use mathlib.Core.List.{List}
 use native.Mathlib.Omega.{arith}
 use borrow.Author.Tests.{le-ltb}
 use lib.ListN.{length}
-use Rattle.commands.specs.declared.Entry.{Entry}
-use Rattle.commands.specs.declared.Entry.the-variants.{State, Input, Drift, Column, Start, Rounds}
-use Rattle.commands.specs.Format.{bytesOf}
-use Rattle.tape.specs.declared.Reading.{Reading}
-use Rattle.tape.specs.declared.Tape.{Tape}
+use Rattle.commands.proofs.Extent.{some-bytes}
 use Rattle.tape.specs.declared.reader.Reader.{Reader}
 use Rattle.tape.specs.declared.reader.Verdict.{Verdict}
 use Rattle.tape.specs.declared.reader.Verdict.the-variants.{Going, Ended, Refused}
-use Rattle.tape.specs.Reading.{next, outcome, readFrom, opened, reading}
-use Rattle.tape.proofs.Steps.{next-leads}
-
-some-bytes : (e : Entry) → 1 ≤ bytesOf e
-some-bytes (State i j v) = omega arith
-some-bytes (Input i j v) = omega arith
-some-bytes (Drift i v) = omega arith
-some-bytes (Column c lo hi r h) = omega arith
-some-bytes (Start i v) = omega arith
-some-bytes (Rounds g r w) = omega arith
+use Rattle.tape.specs.Reading.{next, readFrom, opened, reading}
+use Rattle.tape.proofs.Steps.{next-leads, outcome-same}
 
 -- where the reading goes on, it goes on further behind
 abbrev Moved : ℕ → Verdict → ℕ → Type 0
@@ -36,11 +24,6 @@ moved s q =
     next-leads (λ r. Moved (q .at) (r .verdict) (r .at)) s q
     (record { refused = λ _ _. tt; size = λ n m horizon _ _. omega arith; entry = λ e _ _ _ _ _. omega (arith, some-bytes e); ended = λ _ _. tt })
 
-outcome-same : (v : Verdict) (t : Tape) (x y : Reading) {from to : ℕ} → Moved from v to → (from < to → x ≡ y) → outcome v t x ≡ outcome v t y
-outcome-same Going t x y h f = f h
-outcome-same Ended t x y h f = refl
-outcome-same (Refused why) t x y h f = refl
-
 -- a count that reaches the end, and a larger one
 larger : (s : List ℕ) (left more : ℕ) (q : Reader) → left ≤ more → length s ≤ q .at + left → readFrom s more q ≡ readFrom s left q
 unfolding readFrom next
@@ -49,7 +32,8 @@ larger s zero (suc more) q l h = rw (le-ltb (q .at) (length s) (omega arith))
 larger s (suc left) zero q l h = let z : ⊥ = omega arith in absurd z
 larger s (suc left) (suc more) q l h =
     let r = next s q in
-    outcome-same (r .verdict) (r .tape) (readFrom s more r) (readFrom s left r) (moved s q) (λ m. larger s left more r (omega arith) (omega arith))
+    outcome-same (r .verdict) (r .tape) (readFrom s more r) (readFrom s left r)
+    (λ g. larger s left more r (omega arith) (omega (arith, rw g at (moved s q))))
 
 pub enough : (s : List ℕ) (more : ℕ) → readFrom s (length s + more) opened ≡ reading s
 unfolding reading

@@ -12,70 +12,52 @@ use Rattle.integer.specs.Sum.{sumℕ}
 use Rattle.integer.proofs.Naturals.{sumℕ-but-one}
 use Rattle.integer.proofs.Tests.{none}
 use Rattle.commands.specs.declared.Entry.{Entry}
-use Rattle.commands.specs.declared.Entry.the-variants.{State, Input, Drift, Column, Start, Rounds}
 use Rattle.commands.specs.Format.{bytesOf, wrongSize, beyond, placeOf}
 use Rattle.commands.specs.Marks.{placeCount, sizeBytes, bytesAt, mostBytes, decidingBytes}
-use Rattle.commands.proofs.Tests.{Inside, inside}
-use Rattle.commands.proofs.Extent.{bytes-at}
+use Rattle.commands.proofs.Tests.{inside}
+use Rattle.commands.proofs.Extent.{place-below, some-bytes, bytes-at}
 use Rattle.tape.specs.declared.Answer.{Answer}
 use Rattle.tape.specs.declared.Answer.the-variants as answer
 use Rattle.tape.specs.declared.Reading.{Reading}
-use Rattle.tape.specs.declared.Tape.{Tape}
 use Rattle.tape.specs.declared.reader.Reader.{Reader}
 use Rattle.tape.specs.declared.reader.Verdict.{Verdict}
 use Rattle.tape.specs.declared.reader.Verdict.the-variants.{Going, Ended, Refused}
 use Rattle.tape.specs.Tape.{with}
 use Rattle.tape.specs.Reading.{marked, sized, next, outcome, readFrom, opened, reading}
 use Rattle.tape.specs.Refusals.{row, figure}
-use Rattle.tape.proofs.Steps.{SmallTape, small-opened, small-next, next-leads}
-
--- ---- A command's place and its bytes
-
-place-below : (e : Entry) → Inside e → placeOf e < placeCount
-place-below (State i j v) h = omega arith
-place-below (Input i j v) h = omega arith
-place-below (Drift i v) h = omega arith
-place-below (Column c lo hi r w) h = omega arith
-place-below (Start i v) h = omega arith
-place-below (Rounds g r w) h = omega arith
-
--- an entry takes bytes, and leaves the sizes
-some-bytes : (t : Tape) (e : Entry) → (1 ≤ bytesOf e) × (with t e .n ≡ t .n)
-some-bytes t (State i j v) = omega arith
-some-bytes t (Input i j v) = omega arith
-some-bytes t (Drift i v) = omega arith
-some-bytes t (Column c lo hi r w) = omega arith
-some-bytes t (Start i v) = omega arith
-some-bytes t (Rounds g r w) = omega arith
+use Rattle.tape.proofs.Steps.{same-sizes, SmallTape, small-opened, small-next, next-leads}
 
 -- ---- The bytes of the commands that may still come
 
-lacking : List Bool → ℕ → ℕ
-lacking given p = cond (marked given p) 0 (bytesAt p)
+-- a place's, where it has no mark
+unmarkedBytes : List Bool → ℕ → ℕ
+unmarkedBytes given p = cond (marked given p) 0 (bytesAt p)
 
-entries : List Bool → ℕ
-entries given = sumℕ placeCount (lacking given)
+-- all places'
+entryBytes : List Bool → ℕ
+entryBytes given = sumℕ placeCount (unmarkedBytes given)
 
--- the bytes of an entry that is given are no longer to come
-entries-less : (given : List Bool) (place : ℕ) → place < placeCount → place < length given → marked given place ≡ false →
-    entries (set given place true) + bytesAt place ≡ entries given
-unfolding entries lacking
-entries-less given place h l e =
-    let one = sumℕ-but-one placeCount place (lacking (set given place true)) (lacking given) h
+-- an entry that is given does not come again
+entry-bytes-less : (given : List Bool) (place : ℕ) → place < placeCount → place < length given → marked given place ≡ false →
+    entryBytes (set given place true) + bytesAt place ≡ entryBytes given
+unfolding entryBytes unmarkedBytes
+entry-bytes-less given place h l e =
+    let one = sumℕ-but-one placeCount place (unmarkedBytes (set given place true)) (unmarkedBytes given) h
     (λ p n. ap (λ (mark : Bool). cond mark 0 (bytesAt p)) (getD-set-other given place p true false n)) in
     omega (arith, rw (e, getD-set-same given place true false l) at one)
 
-pub ahead : Reader → ℕ
-ahead q = cond (sized (q .tape)) 0 sizeBytes + entries (q .given)
+-- and command 10's, until it has come
+pub bytesAhead : Reader → ℕ
+bytesAhead q = cond (sized (q .tape)) 0 sizeBytes + entryBytes (q .given)
 
 -- ---- How far the commands reach
 
 pub record Near (q : Reader) : Type 0 where
   pub long : length (q .given) ≡ placeCount
-  pub reach : q .at + ahead q ≤ mostBytes
+  pub reach : q .at + bytesAhead q ≤ mostBytes
 
 pub near-opened : Near opened
-unfolding ahead entries lacking mostBytes sumℕ bytesAt
+unfolding bytesAhead entryBytes unmarkedBytes mostBytes sumℕ bytesAt
 near-opened = record { long = refl; reach = omega arith }
 
 abbrev pub Stays : ℕ → Verdict → Reader → Type 0
@@ -84,7 +66,7 @@ Stays from Ended r = Unit {0}
 Stays from (Refused why) r = figure (row why .carries) ≤ decidingBytes
 
 pub next-stays : (s : List ℕ) (q : Reader) → SmallTape (q .tape) → Near q → let r = next s q in Stays (q .at) (r .verdict) r
-unfolding wrongSize ahead decidingBytes
+unfolding wrongSize bytesAhead decidingBytes
 next-stays s q small n =
     next-leads (λ r. Stays (q .at) (r .verdict) r) s q
     (record {
@@ -95,7 +77,7 @@ next-stays s q small n =
     })
   where
     size-reach : (n′ m′ horizon : ℕ) → sized (q .tape) ≡ false → wrongSize n′ m′ horizon ≡ false →
-        q .at + 4 + (cond (ltb 0 n′) 0 sizeBytes + entries (q .given)) ≤ mostBytes
+        q .at + sizeBytes + (cond (ltb 0 n′) 0 sizeBytes + entryBytes (q .given)) ≤ mostBytes
     size-reach n′ m′ horizon u w =
         let o = none (ltb n′ 1) (ltb 6 n′ ∷ ltb m′ 1 ∷ ltb 4 m′ ∷ ltb horizon 1 ∷ ltb 12 horizon ∷ []) w in
         rw (lt-ltb 0 n′ (ltb-false n′ 1 (o .0))) (omega (arith, rw u at (n .reach)))
@@ -103,16 +85,11 @@ next-stays s q small n =
     entry : (e : Entry) → beyond (q .tape .n) (q .tape .m) (q .tape .horizon) e ≡ false → marked (q .given) (placeOf e) ≡ false →
         Stays (q .at) Going (record { at = q .at + bytesOf e; verdict = Going; tape = with (q .tape) e; given = set (q .given) (placeOf e) true })
     entry e b g =
-        let f = some-bytes (q .tape) e in
         let i = inside (q .tape .n) (q .tape .m) (q .tape .horizon) e small b in
         let p = place-below e i in
-        let o = entries-less (q .given) (placeOf e) p (omega (arith, n .long)) g in (
-          omega (arith, f),
-          record {
-            long = length-set (q .given) (placeOf e) true ∙ n .long;
-            reach = rw (f .1) (omega (arith, o, bytes-at e i, n .reach));
-          },
-        )
+        let o = entry-bytes-less (q .given) (placeOf e) p (omega (arith, n .long)) g in
+        let l = length-set (q .given) (placeOf e) true ∙ n .long in
+        (omega (arith, some-bytes e), record { long = l; reach = rw (same-sizes (q .tape) e .0) (omega (arith, o, bytes-at e i, n .reach)) })
 
 -- ---- Reading
 

@@ -14,11 +14,13 @@ use Rattle.commands.specs.declared.Command.the-variants as command
 use Rattle.commands.specs.declared.Entry.{Entry}
 use Rattle.commands.specs.declared.Entry.the-variants.{State, Input, Drift, Column, Start, Rounds}
 use Rattle.commands.specs.Format.{decoded, bytesOf, wrongSize, beyond, wrong, placeOf}
-use Rattle.commands.specs.Room.{Small}
+use Rattle.commands.specs.Marks.{sizeBytes}
+use Rattle.commands.specs.Room.{SmallSizes}
+use Rattle.tape.specs.declared.Reading.{Reading}
 use Rattle.tape.specs.declared.Tape.{Tape}
 use Rattle.tape.specs.declared.reader.Reader.{Reader}
 use Rattle.tape.specs.declared.reader.Verdict.{Verdict}
-use Rattle.tape.specs.declared.reader.Verdict.the-variants.{Going, Ended}
+use Rattle.tape.specs.declared.reader.Verdict.the-variants.{Going, Ended, Refused}
 use Rattle.tape.specs.declared.refusal.Refusal.{Refusal}
 use Rattle.tape.specs.Refusals.{row, figure}
 use Rattle.tape.specs.Tape.{withSize, with}
@@ -29,7 +31,7 @@ use Rattle.tape.specs.Reading.{refuse, refuseWhen, marked, sized, absent
 pub record Leads (P : Reader → Type 0) (s : List ℕ) (q : Reader) : Type 0 where
   pub refused : (why : Refusal) → figure (row why .carries) ≤ q .at + 1 → P (refuse why q)
   pub size : (n m horizon : ℕ) → sized (q .tape) ≡ false → wrongSize n m horizon ≡ false →
-      P (record { at = q .at + 4; verdict = Going; tape = withSize (q .tape) n m horizon; given = q .given })
+      P (record { at = q .at + sizeBytes; verdict = Going; tape = withSize (q .tape) n m horizon; given = q .given })
   pub entry : (e : Entry) → decoded s (q .at) ≡ command.Give e →
       not (sized (q .tape)) ≡ false → beyond (q .tape .n) (q .tape .m) (q .tape .horizon) e ≡ false → wrong e ≡ false → marked (q .given) (placeOf e) ≡ false →
       P (record { at = q .at + bytesOf e; verdict = Going; tape = with (q .tape) e; given = set (q .given) (placeOf e) true })
@@ -60,7 +62,7 @@ module _ (P : Reader → Type 0) (s : List ℕ) (q : Reader) (k : Leads P s q) w
 -- ---- The sizes stay in range
 
 abbrev pub SmallTape : Tape → Type 0
-SmallTape t = Small (t .n) (t .m) (t .horizon)
+SmallTape t = SmallSizes (t .n) (t .m) (t .horizon)
 
 pub small-opened : SmallTape (opened .tape)
 small-opened = record { states = omega arith; inputs = omega arith; steps = omega arith }
@@ -71,13 +73,17 @@ small-size t n m horizon e =
     let o = none (ltb n 1) (ltb 6 n ∷ ltb m 1 ∷ ltb 4 m ∷ ltb horizon 1 ∷ ltb 12 horizon ∷ []) e in
     record { states = omega (arith, ltb-false); inputs = omega (arith, ltb-false); steps = omega (arith, ltb-false) }
 
+-- an entry leaves the sizes
+pub same-sizes : (t : Tape) (e : Entry) → (with t e .n ≡ t .n) × (with t e .m ≡ t .m) × (with t e .horizon ≡ t .horizon)
+same-sizes t (State i j v) = (refl, refl, refl)
+same-sizes t (Input i j v) = (refl, refl, refl)
+same-sizes t (Drift i v) = (refl, refl, refl)
+same-sizes t (Column c lo hi r h) = (refl, refl, refl)
+same-sizes t (Start i v) = (refl, refl, refl)
+same-sizes t (Rounds g rounds wanted) = (refl, refl, refl)
+
 small-with : (t : Tape) (e : Entry) → SmallTape t → SmallTape (with t e)
-small-with t (State i j v) h = h
-small-with t (Input i j v) h = h
-small-with t (Drift i v) h = h
-small-with t (Column c lo hi r w) h = h
-small-with t (Start i v) h = h
-small-with t (Rounds g rounds wanted) h = h
+small-with t e h = omega (arith, same-sizes t e)
 
 pub small-next : (s : List ℕ) (q : Reader) → SmallTape (q .tape) → SmallTape (next s q .tape)
 small-next s q h =
@@ -92,3 +98,9 @@ pub read-step : (s : List ℕ) (left : ℕ) (q r : Reader) {v : Verdict} → 0 <
 unfolding readFrom
 read-step s zero q r h e f = let z : ⊥ = omega arith in absurd z
 read-step s (suc left) q r h e f = rw (sub-one (suc left), ← e, f)
+
+-- what follows counts only where the reading goes on
+pub outcome-same : (v : Verdict) (t : Tape) (x y : Reading) → (v ≡ Going → x ≡ y) → outcome v t x ≡ outcome v t y
+outcome-same Going t x y h = h refl
+outcome-same Ended t x y h = refl
+outcome-same (Refused why) t x y h = refl

@@ -9,7 +9,7 @@ use Rattle.commands.specs.declared.Command.{Command}
 use Rattle.commands.specs.declared.Command.the-variants as command
 use Rattle.commands.specs.declared.Entry.{Entry}
 use Rattle.commands.specs.Format.{decoded, bytesOf, wrongSize, beyond, wrong, placeOf, required}
-use Rattle.commands.specs.Marks.{placeCount}
+use Rattle.commands.specs.Marks.{placeCount, sizeBytes}
 use Rattle.tape.specs.declared.Answer.the-variants as answer
 use Rattle.tape.specs.declared.Reading.{Reading}
 use Rattle.tape.specs.declared.Tape.{Tape}
@@ -39,7 +39,7 @@ unfoldable pub obeySize : ℕ → ℕ → ℕ → Reader → Reader
 obeySize n m horizon q =
     refuseWhen (sized (q .tape)) (Misplaced (q .at)) q
     (refuseWhen (wrongSize n m horizon) (OutOfRange (q .at)) q
-    (record { at = q .at + 4; verdict = Going; tape = withSize (q .tape) n m horizon; given = q .given }))
+    (record { at = q .at + sizeBytes; verdict = Going; tape = withSize (q .tape) n m horizon; given = q .given }))
 
 -- 20 to 50: 3 where the first command was not 10, 4, 5, 6
 unfoldable pub obeyEntry : Entry → Reader → Reader

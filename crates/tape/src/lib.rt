@@ -7,6 +7,9 @@ ghost use mathlib.Core.Path.{_≡_};
 ghost use Rattle.tape.specs.Tape.{blank};
 use crate::refusal::Refusal;
 
+// So many bytes decide a tape, whatever follows them (`decides` in proofs/Deciding).
+pub const DECIDING_BYTES: usize = 472;
+
 // The numbers of a tape, 0 where none is given and beyond the sizes. A is row by row at a stride of
 // 6, B at a stride of 4. Columns are the n states, then the m inputs.
 pub struct Tape {

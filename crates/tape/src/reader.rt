@@ -4,7 +4,8 @@ ghost use mathlib.Core.Path.{_≡_};
 ghost use mathlib.Core.Bool.{false};
 ghost use lib.ListN.{length};
 ghost use Rattle.commands.specs.Format.{bytesOf, beyond};
-ghost use Rattle.commands.specs.Room.{Room, Small};
+ghost use Rattle.commands.specs.Marks.{sizeBytes};
+ghost use Rattle.commands.specs.Room.{Room, SmallSizes};
 ghost use Rattle.tape.specs.Tape.{with};
 ghost use Rattle.tape.specs.Reading.{refuse, obeySize, obeyEntry, absent, obeyEnd, obey, next, opened, reading};
 use crate::Answer;
@@ -53,7 +54,7 @@ fn refused(q: Reader, why: Refusal) -> Reader
 
 // The entry's numbers, stored.
 fn stored(tape: Tape, entry: Entry) -> Tape
-    requires { ⌜ Small (tape .n) (tape .m) (tape .horizon) × (beyond (tape .n) (tape .m) (tape .horizon) entry ≡ false) ⌝ }
+    requires { ⌜ SmallSizes (tape .n) (tape .m) (tape .horizon) × (beyond (tape .n) (tape .m) (tape .horizon) entry ≡ false) ⌝ }
     ensures { λ r. ⌜ r ≡ with tape entry ⌝ }
 {
     let mut t = tape;
@@ -93,7 +94,7 @@ fn stored(tape: Tape, entry: Entry) -> Tape
 }
 
 fn obey_size(n: usize, m: usize, horizon: usize, q: Reader) -> Reader
-    requires { ⌜ q .at + 4 < 2 ^ 64 ⌝ }
+    requires { ⌜ q .at + sizeBytes < 2 ^ 64 ⌝ }
     ensures { λ r. ⌜ r ≡ obeySize n m horizon q ⌝ }
 {
     let at = q.at;
@@ -117,7 +118,7 @@ fn obey_size(n: usize, m: usize, horizon: usize, q: Reader) -> Reader
 }
 
 fn obey_entry(entry: Entry, q: Reader) -> Reader
-    requires { ⌜ Small (q .tape .n) (q .tape .m) (q .tape .horizon) × (q .at + bytesOf entry < 2 ^ 64) ⌝ }
+    requires { ⌜ SmallSizes (q .tape .n) (q .tape .m) (q .tape .horizon) × (q .at + bytesOf entry < 2 ^ 64) ⌝ }
     ensures { λ r. ⌜ r ≡ obeyEntry entry q ⌝ }
 {
     let at = q.at;
@@ -150,7 +151,7 @@ fn obey_entry(entry: Entry, q: Reader) -> Reader
 
 // Whether a required place has no mark.
 fn is_absent(given: [bool; PLACE_COUNT], n: usize, m: usize, horizon: usize) -> bool
-    requires { ⌜ Small n m horizon ⌝ }
+    requires { ⌜ SmallSizes n m horizon ⌝ }
     ensures { λ r. ⌜ r ≡ absent n m horizon given ⌝ }
 {
     let mut place = 0;
@@ -164,7 +165,7 @@ fn is_absent(given: [bool; PLACE_COUNT], n: usize, m: usize, horizon: usize) -> 
 }
 
 fn obey_end(s: &[u8], q: Reader) -> Reader
-    requires { ⌜ Small (q .tape .n) (q .tape .m) (q .tape .horizon) × (q .at < length (now s)) ⌝ }
+    requires { ⌜ SmallSizes (q .tape .n) (q .tape .m) (q .tape .horizon) × (q .at < length (now s)) ⌝ }
     ensures { λ r. ⌜ r ≡ obeyEnd (now (s .entry)) q ⌝ }
 {
     let at = q.at;
@@ -191,7 +192,7 @@ fn obey_end(s: &[u8], q: Reader) -> Reader
 }
 
 fn obeyed(command: Command, s: &[u8], q: Reader) -> Reader
-    requires { ⌜ Small (q .tape .n) (q .tape .m) (q .tape .horizon) × Room (q .at) (length (now s)) command ⌝ }
+    requires { ⌜ SmallSizes (q .tape .n) (q .tape .m) (q .tape .horizon) × Room (q .at) (length (now s)) command ⌝ }
     ensures { λ r. ⌜ r ≡ obey command (now (s .entry)) q ⌝ }
 {
     let at = q.at;
@@ -205,7 +206,7 @@ fn obeyed(command: Command, s: &[u8], q: Reader) -> Reader
 }
 
 fn step(s: &[u8], q: Reader) -> Reader
-    requires { ⌜ Small (q .tape .n) (q .tape .m) (q .tape .horizon) ⌝ }
+    requires { ⌜ SmallSizes (q .tape .n) (q .tape .m) (q .tape .horizon) ⌝ }
     ensures { λ r. ⌜ r ≡ next (now (s .entry)) q ⌝ }
 {
     let at = q.at;

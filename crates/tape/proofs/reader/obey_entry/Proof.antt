@@ -5,7 +5,7 @@ use lib.Dec.{ltb}
 use borrow.Author.Tests.{lt-ltb, le-ltb}
 use borrow.Author.Needs.{needs}
 use Rattle.commands.specs.Format.{beyond, wrong}
-use Rattle.commands.specs.Room.{Small}
+use Rattle.commands.specs.Room.{SmallSizes}
 use Rattle.tape.specs.Reading.{obeyEntry}
 use Rattle.tape.proofs.reader.obey_entry.Statement.{statement}
 use Rattle.tape.proofs.reader.obey_entry.Tie as tie
@@ -21,7 +21,7 @@ in-range : (c : tie.Else3) → wrong (c .before .before .before .before .before 
 in-range c = sym (c .before .is-wrong .ensures) ∙ c .if3 .left
 
 placed : (c : tie.Else3) → let a = c .before .before .before .before .before .args in
-    Small (a .q .tape .n) (a .q .tape .m) (a .q .tape .horizon) × (beyond (a .q .tape .n) (a .q .tape .m) (a .q .tape .horizon) (a .entry) ≡ false)
+    SmallSizes (a .q .tape .n) (a .q .tape .m) (a .q .tape .horizon) × (beyond (a .q .tape .n) (a .q .tape .m) (a .q .tape .horizon) (a .entry) ≡ false)
 placed c = let p = c .before .before .before .before .before .pre in (p .0, within (c .before .before))
 
 refused-requires : tie.Need-refused-requires

@@ -12,28 +12,29 @@ use Rattle.problem.specs.Dual.{ceiling}
 use Rattle.rounds.specs.declared.Verdict.{Verdict}
 use Rattle.rounds.specs.declared.Verdict.the-variants.{Proved, Impossible, Neither}
 use Rattle.rounds.specs.Rounds.{dropped, verdict}
-use Rattle.rounds.specs.Held.{HeldWhenProved}
+use Rattle.rounds.specs.Held.{VerdictOn, HeldWhenProved}
 
--- the verdict on the floor alone
+-- the verdict without an accepted plan, on the ceiling and the floor
 abbrev pub onFloor : ℤ → ℤ → Verdict
-onFloor highest floor = cond (ltZ highest floor) Impossible Neither
+onFloor highest lowest = cond (ltZ highest lowest) Impossible Neither
 
-module _ (t : Tape) (v : Plan) (floor : ℤ) where
-  abbrev gap : ℤ
-  gap = planCost (problemOf t) v -ℤ floor
+module _ (t : Tape) (v : Plan) (lowest : ℤ) where
+  abbrev difference : ℤ
+  difference = planCost (problemOf t) v -ℤ lowest
 
-  pub accepted : dropped (problemOf t) v ≡ false → leZ gap (t .wanted) ≡ true → Proved gap ≡ verdict t v floor
+  pub accepted : dropped (problemOf t) v ≡ false → leZ difference (t .wanted) ≡ true → VerdictOn t v lowest (Proved difference)
   unfolding verdict
-  accepted d e = rw (d, e)
+  accepted d e = record { under = λ y f. rw (d, f, e) }
 
-  pub when-dropped : dropped (problemOf t) v ≡ true → onFloor (ceiling (problemOf t)) floor ≡ verdict t v floor
+  pub when-dropped : {r : Verdict} → dropped (problemOf t) v ≡ true → r ≡ onFloor (ceiling (problemOf t)) lowest → VerdictOn t v lowest r
   unfolding verdict
-  when-dropped d = rw d
+  when-dropped d e = record { under = λ y f. rw (d, f) e }
 
-  pub when-wide : dropped (problemOf t) v ≡ false → leZ gap (t .wanted) ≡ false → onFloor (ceiling (problemOf t)) floor ≡ verdict t v floor
+  pub when-wide : {r : Verdict} → dropped (problemOf t) v ≡ false → leZ difference (t .wanted) ≡ false → r ≡ onFloor (ceiling (problemOf t)) lowest →
+      VerdictOn t v lowest r
   unfolding verdict
-  when-wide d e = rw (d, e)
+  when-wide d w e = record { under = λ y f. rw (d, f, w) e }
 
   -- it promises nothing of the plan
-  pub nothing-held : {r : Verdict} (l : List ℤ) (highest : ℤ) → r ≡ onFloor highest floor → HeldWhenProved r t v l
-  nothing-held l highest e = rw e (by-test (λ r. HeldWhenProved r t v l) (ltZ highest floor) (λ _. tt) (λ _. tt))
+  pub nothing-held : {r : Verdict} (l : List ℤ) (highest : ℤ) → r ≡ onFloor highest lowest → HeldWhenProved r t v l
+  nothing-held l highest e = rw e (by-test (λ r. HeldWhenProved r t v l) (ltZ highest lowest) (λ _. tt) (λ _. tt))

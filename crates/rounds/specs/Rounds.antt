@@ -2,7 +2,7 @@
 use Prim.Native.Nat.{ℕ, zero, suc}
 use mathlib.Core.Bool.{Bool, false, cond, _||_}
 use lib.IntN.{ℤ, pos, _+ℤ_, _-ℤ_, _*ℤ_, negℤ}
-use lib.Signed.{leZ, ltZ}
+use lib.Signed.{leZ}
 use Rattle.integer.specs.Limited.{limited}
 use Rattle.integer.specs.Quotient.{_÷_}
 use Rattle.integer.specs.Tests.{outside, any}
@@ -10,7 +10,7 @@ use Rattle.commands.specs.Ranges.{mostMultiplier}
 use Rattle.tape.specs.declared.Tape.{Tape}
 use Rattle.problem.specs.Model.{Term, Problem, Plan, problemOf, modelSum, rounded}
 use Rattle.problem.specs.Cost.{planCost}
-use Rattle.problem.specs.Dual.{inputSlope, stateSlope, ceiling}
+use Rattle.problem.specs.Dual.{inputSlope, stateSlope, floor, shows}
 use Rattle.rounds.specs.declared.Verdict.{Verdict}
 use Rattle.rounds.specs.declared.Verdict.the-variants.{Proved, Impossible, Neither}
 
@@ -55,12 +55,16 @@ dropped q v =
     any (q .horizon)
     (λ k. any (q .m) (λ j. exceeds (q .inputTerm k j) (v .u k j)) || any (q .n) (λ i. exceeds (q .stateTerm k i) (v .x k i)))
 
--- It follows the tape and its gap is at most T: 'proved'. Otherwise, if the floor exceeds the ceiling: 'impossible'.
-unfoldable pub verdict : Tape → Plan → ℤ → Verdict
-verdict t v floor =
-    cond (cond (dropped (problemOf t) v) false (leZ (planCost (problemOf t) v -ℤ floor) (t .wanted)))
-    (Proved (planCost (problemOf t) v -ℤ floor))
-    (cond (ltZ (ceiling (problemOf t)) floor) Impossible Neither)
+-- K minus the floor of the multipliers
+abbrev pub gap : Problem → Plan → (ℕ → ℕ → ℤ) → ℤ
+gap q v y = planCost q v -ℤ floor q y
+
+-- It follows the tape and its gap under y is at most T: 'proved'. Otherwise, if y shows impossibility: 'impossible'.
+unfoldable pub verdict : Tape → Plan → (ℕ → ℕ → ℤ) → Verdict
+verdict t v y =
+    cond (cond (dropped (problemOf t) v) false (leZ (gap (problemOf t) v y) (t .wanted)))
+    (Proved (gap (problemOf t) v y))
+    (cond (shows (problemOf t) y) Impossible Neither)
 
 -- ---- 4. The next y, from y~ and the residual e of the numbers of 2
 

@@ -92,7 +92,7 @@ returns c =
     let d = c .before .before .before in
     let s = start d in
     let e = c .without-plan .ensures ∙ on-floor s in
-    (e ∙ when-dropped _ _ _ (sym (d .candidate-of .ensures .0) ∙ c .before .if1 .taken), (nothing-held (s .args .t) _ (s .args .floor) _ (ceiling (problemOf (s .args .t))) e, d .candidate-of .ensures .1 .1))
+    (when-dropped _ _ _ (sym (d .candidate-of .ensures .0) ∙ c .before .if1 .taken) e, (nothing-held (s .args .t) _ (s .args .floor) _ (ceiling (problemOf (s .args .t))) e, d .candidate-of .ensures .1 .1))
 
 plan-cost-requires : tie.Need-plan-cost-requires
 plan-cost-requires c κs = search needs
@@ -117,7 +117,7 @@ returns-3 c =
     let e = kept d in
     let s = start (weighed e) in
     let f = c .without-plan2 .ensures ∙ on-floor s in
-    (f ∙ when-wide _ _ _ (not-dropped e) (rw (gap d .is, wanted-is s) at (c .before .if2 .left)), (nothing-held (s .args .t) _ (s .args .floor) _ (ceiling (problemOf (s .args .t))) f, weighed e .candidate-of .ensures .1 .1))
+    (when-wide _ _ _ (not-dropped e) (rw (gap d .is, wanted-is s) at (c .before .if2 .left)) f, (nothing-held (s .args .t) _ (s .args .floor) _ (ceiling (problemOf (s .args .t))) f, weighed e .candidate-of .ensures .1 .1))
 
 pub weigh-spec : {M : Type 1} → statement M
 weigh-spec =

@@ -14,17 +14,18 @@ use Rattle.problem.proofs.Congruence.{model-cong, cost-cong, inputSlope-cong, s
 use Rattle.evaluate.specs.Padded.{padded, paddedPlan}
 use Rattle.evaluate.specs.Held.{BlankMultipliers, HeldMultipliers, HeldPlan}
 use Rattle.evaluate.proofs.HeldSteps.{states-before}
+use Rattle.steps.specs.declared.verdict.Verdict.{Verdict}
+use Rattle.steps.specs.declared.verdict.Verdict.the-variants.{Proved, Impossible, Neither}
+use Rattle.steps.specs.Steps.{ahead, minimiser, minimisers, candidate, verdict, ascended}
+use Rattle.steps.specs.Held.{HeldWhenProved}
+use Rattle.steps.proofs.ModelStates.{modelStates-cong, dropped-cong}
 use Rattle.rounds.specs.declared.RoundState.{RoundState}
 use Rattle.rounds.specs.declared.Round.{Round}
-use Rattle.rounds.specs.declared.Verdict.{Verdict}
-use Rattle.rounds.specs.declared.Verdict.the-variants.{Proved, Impossible, Neither}
 use Rattle.rounds.specs.Lent.{lentMultipliers, lentPlan}
-use Rattle.rounds.specs.Rounds.{ahead, minimiser, minimisers, candidate, verdict, ascended}
 use Rattle.rounds.specs.Running.{aheadOf, minimisersOf, candidateOf, ascendedOf, Ending, proved, refused, ended, entered, rounds, start}
-use Rattle.rounds.specs.Held.{HeldWhenProved, HeldState, lentOf, RoundFrom}
+use Rattle.rounds.specs.Held.{HeldState, lentOf, RoundFrom}
 use Rattle.rounds.proofs.Filled.{zeros-bounded}
 use Rattle.rounds.proofs.Lent.{lent-multipliers-at, lent-multipliers-cong, lent-plan-cong}
-use Rattle.rounds.proofs.ModelStates.{modelStates-cong, dropped-cong}
 
 -- ---- A round
 

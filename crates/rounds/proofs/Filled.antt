@@ -20,9 +20,9 @@ use Rattle.evaluate.specs.Held.{BlankMultipliers, BlankPlan, HeldMultipliers, H
 use Rattle.evaluate.proofs.LinearSizes.{residualAt}
 use Rattle.evaluate.proofs.Padding.{model-padded, inputSlope-padded, stateSlope-padded}
 use Rattle.evaluate.proofs.Places.{place-input, place-state}
-use Rattle.rounds.specs.Rounds.{ahead, minimiser, minimisers, ascended}
-use Rattle.rounds.specs.Held.{InputsWithin}
-use Rattle.rounds.proofs.Blank.{ahead-zero, ascended-zero, minimiser-blank, size-ahead, size-ascended, size-minimiser, minimiser-within}
+use Rattle.steps.specs.Steps.{ahead, minimiser, minimisers, ascended}
+use Rattle.steps.specs.Held.{InputsWithin}
+use Rattle.steps.proofs.Blank.{ahead-zero, ascended-zero, minimiser-blank, size-ahead, size-ascended, size-minimiser, minimiser-within}
 
 -- ---- Places filled from the front, with zeros behind them
 

@@ -1,51 +1,20 @@
 -- What the private functions tell each other.
-use Prim.Native.Nat.{ℕ, _+_, _<_}
+use Prim.Native.Nat.{ℕ, _+_}
 use mathlib.Core.Path.{_≡_}
-use mathlib.Core.Bool.{Bool, true, false}
 use mathlib.Core.List.{List}
 use lib.IntN.{ℤ}
-use Rattle.integer.specs.Places.{Bounded, Stretch}
+use Rattle.integer.specs.Places.{Bounded}
 use Rattle.commands.specs.Ranges.{mostNumber, mostMultiplier}
 use Rattle.tape.specs.declared.Tape.{Tape}
 use Rattle.tape.specs.declared.refusal.Refusal.the-variants.{Open}
-use Rattle.problem.specs.Model.{Problem, Plan, problemOf}
-use Rattle.problem.specs.Cost.{Within}
-use Rattle.problem.specs.Dual.{floor}
 use Rattle.evaluate.specs.Padded.{padded, paddedPlan}
-use Rattle.evaluate.specs.Held.{BlankMultipliers, HeldPlan}
+use Rattle.evaluate.specs.Held.{BlankMultipliers}
 use Rattle.rounds.specs.declared.RoundState.{RoundState}
 use Rattle.rounds.specs.declared.Round.{Round}
-use Rattle.rounds.specs.declared.Verdict.{Verdict}
-use Rattle.rounds.specs.declared.Verdict.the-variants.{Proved, Impossible, Neither}
 use Rattle.rounds.specs.declared.Ended.{Ended}
 use Rattle.rounds.specs.declared.Ended.the-variants as ends
 use Rattle.rounds.specs.Lent.{lentMultipliers, lentPlan}
-use Rattle.rounds.specs.Rounds.{verdict}
 use Rattle.rounds.specs.Running.{aheadOf, Ending, proved, impossible, refused, ended, entered}
-
--- the inputs of a plan lie within their limits
-pub record InputsWithin (q : Problem) (u : ℕ → ℕ → ℤ) : Type 0 where
-  pub each : (k j : ℕ) → k < q .horizon → j < q .m → Within (q .inputTerm k j) (u k j)
-
--- unless the step is dropped, its places have been filled
-abbrev pub FilledUnless : Bool → ℕ → ℕ → (ℕ → ℤ) → List ℤ → List ℤ → Type 0
-FilledUnless true o w f old new = Unit {0}
-FilledUnless false o w f old new = Stretch o w f old new
-
--- unless the candidate is dropped, the array holds it
-abbrev pub HeldUnless : Bool → Tape → Plan → List ℤ → Type 0
-HeldUnless true t v l = Unit {0}
-HeldUnless false t v l = HeldPlan (t .n) (t .m) (t .horizon) v l
-
--- where the verdict is 'proved', the array holds the candidate
-abbrev pub HeldWhenProved : Verdict → Tape → Plan → List ℤ → Type 0
-HeldWhenProved (Proved gap) t v l = HeldPlan (t .n) (t .m) (t .horizon) v l
-HeldWhenProved Impossible t v l = Unit {0}
-HeldWhenProved Neither t v l = Unit {0}
-
--- the verdict under any multipliers of this floor
-pub record VerdictOn (t : Tape) (v : Plan) (lowest : ℤ) (r : Verdict) : Type 0 where
-  pub under : (y : ℕ → ℕ → ℤ) → floor (problemOf t) y ≡ lowest → r ≡ verdict t v y
 
 -- y and the y before it, at padded places: within the range, and 0 beyond the sizes
 pub record HeldState (t : Tape) (s : RoundState) : Type 0 where

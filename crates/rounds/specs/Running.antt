@@ -6,10 +6,10 @@ use Rattle.tape.specs.declared.Tape.{Tape}
 use Rattle.tape.specs.declared.refusal.Refusal.{Refusal}
 use Rattle.tape.specs.declared.refusal.Refusal.the-variants.{Open}
 use Rattle.problem.specs.Model.{Plan, problemOf, multipliersOf, residual}
-use Rattle.rounds.specs.declared.Verdict.{Verdict}
-use Rattle.rounds.specs.declared.Verdict.the-variants as verdicts
+use Rattle.steps.specs.declared.verdict.Verdict.{Verdict}
+use Rattle.steps.specs.declared.verdict.Verdict.the-variants as verdicts
+use Rattle.steps.specs.Steps.{ahead, minimisers, candidate, verdict, ascended}
 use Rattle.rounds.specs.Lent.{lentMultipliers, lentPlan}
-use Rattle.rounds.specs.Rounds.{ahead, minimisers, candidate, verdict, ascended}
 
 -- ---- The steps on multipliers as they are lent
 

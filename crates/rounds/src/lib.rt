@@ -1,14 +1,8 @@
-// The rounds of a solve: document 01's four steps.
-mod arrays;
-mod candidate;
-mod numbers;
-
+// A round from its state, by document 01's four steps, and the rounds of a solve.
 ghost use Prim.Native.Nat.{_<_, _≤_};
 ghost use mathlib.Core.Path.{_≡_};
-ghost use mathlib.Core.Bool.{cond};
 ghost use lib.ListN.{replicate};
 ghost use lib.IntN.{pos, natAbs};
-ghost use lib.Signed.{ltZ};
 ghost use Rattle.integer.specs.Places.{Bounded};
 ghost use Rattle.commands.specs.Ranges.{mostNumber, mostMultiplier};
 ghost use Rattle.tape.specs.Legal.{Legal};
@@ -17,21 +11,20 @@ ghost use Rattle.problem.specs.Dual.{floor, ceiling};
 ghost use Rattle.evaluate.specs.Padded.{padded, paddedPlan};
 ghost use Rattle.evaluate.specs.Terms.{TermsOf};
 ghost use Rattle.evaluate.specs.Held.{BlankPlan, BlankMultipliers, HeldPlan, HeldMultipliers};
-ghost use Rattle.rounds.specs.declared.Verdict.the-variants as verdicts;
-ghost use Rattle.rounds.specs.Rounds.{minimisers, candidate, ascended};
+ghost use Rattle.steps.specs.Steps.{minimisers, ascended};
 ghost use Rattle.rounds.specs.Running.{rounds, start};
-ghost use Rattle.rounds.specs.Held.{InputsWithin, VerdictOn, HeldWhenProved, HeldState, RoundFrom, endingOf};
-use crate::arrays::minimisers;
-use crate::arrays::multipliers_ahead;
-use crate::arrays::multipliers_ascended;
-use crate::candidate::candidate_of;
+ghost use Rattle.rounds.specs.Held.{HeldState, RoundFrom, endingOf};
 use evaluate::cost::ceiling_of;
-use evaluate::cost::plan_cost;
 use evaluate::dual::offset;
 use evaluate::dual::pieces;
 use evaluate::dual::slopes;
 use evaluate::model::residuals;
 use evaluate::terms::Terms;
+use steps::arrays::minimisers;
+use steps::arrays::multipliers_ahead;
+use steps::arrays::multipliers_ascended;
+use steps::verdict::Verdict;
+use steps::verdict::weigh;
 use tape::Tape;
 
 // The dual function at multipliers: its minimisers, which are the numbers of step 2, and its value,
@@ -69,65 +62,6 @@ fn dual_at(t: Tape, terms: Terms, y: [i64; 72]) -> Dual
     Dual {
         numbers: numbers,
         floor: least + rest,
-    }
-}
-
-pub enum Verdict {
-    Proved(i64),
-    Impossible,
-    Neither,
-}
-
-// The verdict on a floor with no accepted plan.
-fn without_plan(highest: i64, floor: i64) -> Verdict
-    ensures { λ r. ⌜ r ≡ cond (ltZ highest floor) verdicts.Impossible verdicts.Neither ⌝ }
-{
-    if highest < floor {
-        return Verdict::Impossible;
-    }
-    Verdict::Neither
-}
-
-// The verdict, and the candidate where it is 'proved'.
-pub struct Weighed {
-    pub verdict: Verdict,
-    pub plan: [i64; 120],
-}
-
-// Step 3, from the ceiling, the floor and the numbers v of step 2.
-fn weigh(t: Tape, terms: Terms, highest: i64, floor: i64, v: [i64; 120]) -> Weighed
-    requires { ⌜ Legal t × TermsOf t (terms .penalty) (terms .low) (terms .high) (terms .reference) ⌝ }
-    requires { ⌜ (highest ≡ ceiling (problemOf t)) × (natAbs floor ≤ 4541889529384009728) × InputsWithin (problemOf t) (paddedPlan v .u) × BlankPlan (t .n) (t .m) v × Bounded mostNumber v ⌝ }
-    ensures { λ r. ⌜ VerdictOn t (candidate (problemOf t) (paddedPlan v .u)) floor (r .verdict) ⌝ }
-    ensures { λ r. ⌜ HeldWhenProved (r .verdict) t (candidate (problemOf t) (paddedPlan v .u)) (r .plan) × Bounded mostNumber (r .plan) ⌝ }
-{
-    let horizon = t.horizon;
-    let candidate = candidate_of(t, terms, v);
-    let plan = candidate.plan;
-    if candidate.dropped {
-        return Weighed {
-            verdict: without_plan(highest, floor),
-            plan: plan,
-        };
-    }
-    let cost = plan_cost(
-        &terms.penalty,
-        &terms.low,
-        &terms.high,
-        &terms.reference,
-        &plan,
-        horizon,
-    );
-    let gap = cost - floor;
-    if gap <= t.wanted {
-        return Weighed {
-            verdict: Verdict::Proved(gap),
-            plan: plan,
-        };
-    }
-    Weighed {
-        verdict: without_plan(highest, floor),
-        plan: plan,
     }
 }
 

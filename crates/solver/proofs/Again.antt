@@ -29,12 +29,12 @@ use Rattle.judge.specs.declared.Judged.the-variants.{Gap}
 use Rattle.judge.specs.declared.Shown.the-variants.{Shown}
 use Rattle.judge.specs.Judging.{gapWithin, judgedOn, judged, floorAbove, shownOn, shown}
 use Rattle.judge.proofs.Accepted.{passes, backed, founded}
+use Rattle.steps.specs.Steps.{modelStates, candidate, exceeds, dropped, gap, verdict}
+use Rattle.steps.proofs.Blank.{size-ahead}
+use Rattle.steps.proofs.ModelStates.{model-states}
 use Rattle.rounds.specs.Lent.{lentPlan}
-use Rattle.rounds.specs.Rounds.{modelStates, candidate, exceeds, dropped, gap, verdict}
 use Rattle.rounds.specs.Running.{aheadOf, candidateOf, Ending, proved, impossible, refused, ended, rounds}
-use Rattle.rounds.proofs.Blank.{size-ahead}
 use Rattle.rounds.proofs.Lent.{length-lent-multipliers, lent-multipliers-bounded, length-lent-plan, lent-plan-input, lent-plan-state}
-use Rattle.rounds.proofs.ModelStates.{model-states}
 use Rattle.solver.specs.declared.Solved.{Solved}
 use Rattle.solver.specs.declared.Solved.the-variants.{Proved, Impossible, Refused}
 use Rattle.solver.specs.Solving.{solvingOn, endingAfterRead, solving, firstDuties, answerOf, planLeft, multipliersLeft}

@@ -22,8 +22,8 @@ use Rattle.judge.specs.declared.Judged.the-variants as judgement
 use Rattle.judge.specs.declared.Shown.{Shown}
 use Rattle.judge.specs.declared.Shown.the-variants as showing
 use Rattle.judge.specs.Judging.{gapWithin, judgedOn, judged, floorAbove, shownOn, shown}
+use Rattle.steps.specs.Steps.{ahead, minimiser, modelStates, dropped, verdict, ascended}
 use Rattle.rounds.specs.Lent.{listed, joined}
-use Rattle.rounds.specs.Rounds.{ahead, minimiser, modelStates, dropped, verdict, ascended}
 use Rattle.rounds.specs.Running.{Ending, proved, impossible, refused, rounds}
 use Rattle.solver.specs.Solving.{solvingOn, solving}
 

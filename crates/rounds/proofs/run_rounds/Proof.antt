@@ -1,5 +1,5 @@
 use Prim.Native.Nat.{_-_, _<_}
-use mathlib.Core.Path.{_≡_, _∙_}
+use mathlib.Core.Path.{_≡_, sym, _∙_, ap}
 use native.Mathlib.Omega.{arith}
 use borrow.Author.Needs.{needs}
 use mir.Syntax.{w64}
@@ -8,6 +8,7 @@ use Rattle.integer.proofs.Sizes.{called}
 use Rattle.problem.specs.Model.{problemOf}
 use Rattle.problem.specs.Dual.{ceiling}
 use Rattle.evaluate.proofs.Padding.{ceiling-padded}
+use Rattle.steps.specs.declared.verdict.Verdict.the-variants.{Proved}
 use Rattle.rounds.proofs.Entered.{Running, running-start, whole-is, running-next, open-is}
 use Rattle.rounds.proofs.Filled.{zeros-bounded}
 use Rattle.rounds.proofs.run_rounds.Statement.{statement}
@@ -23,7 +24,7 @@ abbrev start : tie.At-loop Inv-loop μ-loop → tie.Start Inv-loop μ-loop
 start c = c .before .before .before .before .before .before .before .before
 
 early : (c : tie.In-loop Inv-loop μ-loop) → c .before .loop .k < start (c .before) .args .t .rounds
-early c = omega arith
+early c = let r = start (c .before) .pre .0 .rounds in omega arith
 
 ceiling-of-requires : tie.Need-ceiling-of-requires Inv-loop μ-loop
 ceiling-of-requires c κs = search needs
@@ -56,8 +57,8 @@ returns c =
     let r = c .before .before .before .before .before in
     let l = r .before .before .loop in
     let f = r .round .ensures in
-    rw (called (c .before .verdict .given .0 .0) (c .known-told .given .0 .1))
-    (whole-is (l .inv .1) (early (r .before)) f (c .before .verdict .given .1), (f .plan-bounded, f .ahead-bounded))
+    let g = called (c .before .verdict .given .0 .0) (c .known-told .given .0 .1) in
+    (whole-is (l .inv .1) (early (r .before)) f (c .before .verdict .given .1 ∙ ap Proved (sym g)), (f .plan-bounded, f .ahead-bounded))
 
 enum-told : tie.Need-enum-told Inv-loop μ-loop
 enum-told c = search needs

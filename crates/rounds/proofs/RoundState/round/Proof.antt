@@ -8,7 +8,7 @@ use Rattle.integer.proofs.Order.{order}
 use Rattle.integer.proofs.Sizes.{back, back-is}
 use Rattle.evaluate.specs.Padded.{padded}
 use Rattle.evaluate.specs.Held.{HeldMultipliers}
-use Rattle.rounds.specs.Rounds.{ahead}
+use Rattle.steps.specs.Steps.{ahead}
 use Rattle.rounds.proofs.Entered.{round-ends}
 use Rattle.rounds.proofs.Filled.{held-ahead, inputs-within}
 use Rattle.rounds.proofs.RoundState.round.Statement.{statement}

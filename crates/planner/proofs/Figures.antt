@@ -20,7 +20,7 @@ use Rattle.tape.specs.Refusals.{row, figure}
 use Rattle.tape.proofs.Facts.{legal}
 use Rattle.tape.proofs.Offsets.{Carrying, carrying}
 use Rattle.problem.specs.Model.{Problem, Plan, problemOf, planOf, multipliersOf, rounded}
-use Rattle.problem.specs.Dual.{floor, floorOf, ceiling}
+use Rattle.problem.specs.Dual.{floor, ceiling}
 use Rattle.lent.specs.declared.walk.Check.{Check}
 use Rattle.lent.specs.declared.walk.Check.the-variants as check
 use Rattle.lent.specs.Checks.{orElse, first, limits, meets, stateCheck, stepCheck, planCheck, wrongMultipliers, wrongPlanLength, wrongMultipliersLength}
@@ -30,10 +30,10 @@ use Rattle.judge.specs.declared.Shown.{Shown}
 use Rattle.judge.specs.declared.Shown.the-variants as showing
 use Rattle.judge.specs.Judging.{gapWithin, afterCheck, judgedOn, judgedAfterRead, judged}
 use Rattle.judge.specs.Judging.{floorAbove, shownOn, shownAfterRead, shown}
-use Rattle.rounds.specs.declared.Verdict.{Verdict}
-use Rattle.rounds.specs.declared.Verdict.the-variants.{Proved, Impossible, Neither}
+use Rattle.steps.specs.declared.verdict.Verdict.{Verdict}
+use Rattle.steps.specs.declared.verdict.Verdict.the-variants.{Proved, Impossible, Neither}
+use Rattle.steps.specs.Steps.{verdict}
 use Rattle.rounds.specs.Lent.{lentPlan}
-use Rattle.rounds.specs.Rounds.{verdict}
 use Rattle.rounds.specs.Running.{aheadOf, candidateOf, ascendedOf, Ending, ended, rounds}
 use Rattle.rounds.specs.Running as running
 use Rattle.solver.specs.declared.Solved.{Solved}
@@ -173,7 +173,7 @@ small-rounds t zero k y previous r h = refused r
 small-rounds t (suc left) k y previous r h =
     let y~ = aheadOf t k y previous in
     let v = candidateOf t y~ in
-    small-round (k + 1) (verdict t v (floorOf t y~)) (lentPlan (t .n) (t .m) (t .horizon) v) y~ (omega arith)
+    small-round (k + 1) (verdict t v (multipliersOf (t .n) y~)) (lentPlan (t .n) (t .m) (t .horizon) v) y~ (omega arith)
     (small-rounds t left (k + 1) (ascendedOf t y~) y r (omega arith))
 
 pub small-solved : (s : List ℕ) (plan y : List ℤ) → Bytes s → SmallSolved (answerOf (reading s .tape) (solving s plan y))

@@ -12,11 +12,10 @@ ghost use Rattle.primal.specs.Terms.{TermsOf};
 ghost use Rattle.primal.specs.Held.{HeldPlan};
 ghost use Rattle.primal.specs.Ranges.{mostForcing};
 ghost use Rattle.lent.specs.Checks.{first, limits, stateCheck, stepCheck, planCheck, failed, tested};
+ghost use Rattle.lent.specs.Held.{FilledWhenPassed, HeldWhenPassed};
 use primal::model::model_sum;
 use primal::model::state_of;
 use primal::terms::Terms;
-ghost use Rattle.lent.specs.Held.{FilledWhenPassed, HeldWhenPassed};
-use integer::number::is_outside;
 use tape::Tape;
 
 // The tests of a plan's number: 10, against the model, and 11, against its limits.

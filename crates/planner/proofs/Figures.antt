@@ -13,15 +13,14 @@ use Rattle.tape.specs.declared.Answer.{Answer}
 use Rattle.tape.specs.declared.Answer.the-variants as answer
 use Rattle.tape.specs.declared.Tape.{Tape}
 use Rattle.tape.specs.declared.refusal.Refusal.{Refusal}
-use Rattle.tape.specs.declared.refusal.Refusal.the-variants.{Cut, Unknown, Misplaced, NoSuchPlace, OutOfRange, Twice, Absent, Overrun}
-use Rattle.tape.specs.declared.refusal.Refusal.the-variants.{Length, OffModel, OverLimit, Multiplier, Wide, NotShown, Open}
+use Rattle.tape.specs.declared.refusal.Refusal.the-variants.{Cut, Unknown, Misplaced, NoSuchPlace, OutOfRange, Twice, Absent, Overrun, Length, OffModel, OverLimit, Multiplier, Wide, NotShown, Open}
 use Rattle.tape.specs.Reading.{reading}
 use Rattle.tape.specs.Refusals.{row, figure}
 use Rattle.tape.proofs.Facts.{legal}
 use Rattle.tape.proofs.Offsets.{Carrying, carrying}
 use Rattle.problem.specs.Model.{problemOf, planOf, multipliersOf}
 use Rattle.problem.specs.Cost.{costOf}
-use Rattle.problem.specs.Dual.{floorOf, shows}
+use Rattle.problem.specs.Dual.{floorOf, shows, floor}
 use Rattle.lent.specs.declared.walk.Check.{Check}
 use Rattle.lent.specs.declared.walk.Check.the-variants as check
 use Rattle.lent.specs.declared.walk.Test.{Test}
@@ -31,12 +30,11 @@ use Rattle.judge.specs.declared.Judged.{Judged}
 use Rattle.judge.specs.declared.Judged.the-variants as judging
 use Rattle.judge.specs.declared.Shown.{Shown}
 use Rattle.judge.specs.declared.Shown.the-variants as showing
-use Rattle.judge.specs.Judging.{gapWithin, refusalOf, afterCheck, judgedOn, judgedAfterRead, judged}
-use Rattle.judge.specs.Judging.{shownOn, shownAfterRead, shown}
-use Rattle.rounds.specs.declared.Verdict.{Verdict}
-use Rattle.rounds.specs.declared.Verdict.the-variants.{Proved, Impossible, Neither}
+use Rattle.judge.specs.Judging.{gapWithin, refusalOf, afterCheck, judgedOn, judgedAfterRead, judged, shownOn, shownAfterRead, shown}
+use Rattle.steps.specs.declared.verdict.Verdict.{Verdict}
+use Rattle.steps.specs.declared.verdict.Verdict.the-variants.{Proved, Impossible, Neither}
+use Rattle.steps.specs.Steps.{verdict}
 use Rattle.rounds.specs.Lent.{lentPlan}
-use Rattle.rounds.specs.Rounds.{verdict}
 use Rattle.rounds.specs.Running.{aheadOf, candidateOf, ascendedOf, Ending, ended, rounds}
 use Rattle.rounds.specs.Running as running
 use Rattle.solver.specs.declared.Solved.{Solved}
@@ -150,7 +148,7 @@ small-rounds t zero k y previous r h = refused r
 small-rounds t (suc left) k y previous r h =
     let y~ = aheadOf t k y previous in
     let v = candidateOf t y~ in
-    small-round (k + 1) (verdict t v (floorOf t y~)) (lentPlan (t .n) (t .m) (t .horizon) v) y~ (omega arith)
+    small-round (k + 1) (verdict t v (multipliersOf (t .n) y~)) (lentPlan (t .n) (t .m) (t .horizon) v) y~ (omega arith)
     (small-rounds t left (k + 1) (ascendedOf t y~) y r (omega arith))
 
 pub small-solved : (s : List ℕ) (plan y : List ℤ) → Bytes s → SmallSolved (answerOf (reading s .tape) (solving s plan y))

@@ -1,44 +1,33 @@
 -- A round on padded arrays is the round of the definition, on the multipliers that the arrays hold.
 use Prim.Native.Nat.{ℕ, suc, _+_, _*_, _-_, _<_, _≤_}
-use mathlib.Core.Path.{_≡_, sym, _∙_, ap, ap₂, subst}
+use mathlib.Core.Path.{_≡_, refl, sym, _∙_, ap, ap₂}
 use mathlib.Core.List.{List}
 use native.Mathlib.Omega.{arith}
 use lib.ListN.{replicate}
 use lib.IntN.{ℤ, pos, _-ℤ_, _*ℤ_}
-use Rattle.integer.specs.Places.{Bounded}
 use Rattle.integer.proofs.Places.{zeros}
-use Rattle.commands.specs.Ranges.{mostMultiplier}
 use Rattle.tape.specs.declared.Tape.{Tape}
 use Rattle.tape.specs.declared.refusal.Refusal.the-variants.{Open}
 use Rattle.tape.specs.Legal.{Legal}
 use Rattle.problem.specs.Model.{problemOf, multipliersOf, residual}
-use Rattle.problem.specs.Dual.{floor, floorOf}
 use Rattle.problem.proofs.Congruence.{model-cong, cost-cong, inputSlope-cong, stateSlope-cong, floor-cong}
 use Rattle.primal.specs.Padded.{padded, paddedPlan}
 use Rattle.primal.specs.Held.{BlankMultipliers, HeldMultipliers, HeldPlan}
 use Rattle.primal.proofs.HeldSteps.{states-before}
-use Rattle.rounds.specs.declared.Verdict.{Verdict}
-use Rattle.rounds.specs.declared.Verdict.the-variants.{Proved, Impossible, Neither}
+use Rattle.steps.specs.declared.verdict.Verdict.{Verdict}
+use Rattle.steps.specs.declared.verdict.Verdict.the-variants.{Proved, Impossible, Neither}
+use Rattle.steps.specs.Steps.{ahead, minimiser, minimisers, candidate, verdict, ascended}
+use Rattle.steps.specs.Held.{HeldWhenProved}
+use Rattle.steps.proofs.ModelStates.{modelStates-cong, dropped-cong}
+use Rattle.rounds.specs.declared.RoundState.{RoundState}
+use Rattle.rounds.specs.declared.Round.{Round}
 use Rattle.rounds.specs.Lent.{lentMultipliers, lentPlan}
-use Rattle.rounds.specs.Rounds.{ahead, minimiser, minimisers, candidate, verdict, ascended}
-use Rattle.rounds.specs.Running.{aheadOf, minimisersOf, candidateOf, ascendedOf, Ending, proved, impossible, refused, ended, entered, rounds, start}
-use Rattle.rounds.specs.Held.{HeldWhenProved}
+use Rattle.rounds.specs.Running.{aheadOf, minimisersOf, candidateOf, ascendedOf, Ending, proved, refused, ended, entered, rounds, start}
+use Rattle.rounds.specs.Held.{HeldState, lentOf, RoundFrom}
 use Rattle.rounds.proofs.Filled.{zeros-bounded}
 use Rattle.rounds.proofs.Lent.{lent-multipliers-at, lent-multipliers-cong, lent-plan-cong}
-use Rattle.rounds.proofs.ModelStates.{modelStates-cong, dropped-cong}
 
--- the multipliers that an array holds, as they are lent
-abbrev pub lentOf : Tape → List ℤ → List ℤ
-lentOf t l = lentMultipliers (t .n) (t .horizon) (padded l)
-
--- the rounds before round k gave no answer, and the arrays hold what it starts from
-pub record Running (t : Tape) (k : ℕ) (current previous : List ℤ) : Type 0 where
-  pub early : k ≤ t .rounds
-  pub left : rounds t (t .rounds) 0 (start t) (start t) ≡ rounds t (t .rounds - k) k (lentOf t current) (lentOf t previous)
-  pub blank : BlankMultipliers (t .n) current
-  pub blank-previous : BlankMultipliers (t .n) previous
-  pub bounded : Bounded mostMultiplier current
-  pub bounded-previous : Bounded mostMultiplier previous
+-- ---- A round
 
 module _ (t : Tape) (legal : Legal t) where
   abbrev lent : List ℤ → List ℤ
@@ -49,21 +38,6 @@ module _ (t : Tape) (legal : Legal t) where
 
   lent-held : {y : ℕ → ℕ → ℤ} {l : List ℤ} → HeldMultipliers (t .n) (t .horizon) y l → lentMultipliers (t .n) (t .horizon) y ≡ lent l
   lent-held {y} {l} h = lent-multipliers-cong (t .n) (t .horizon) y (padded l) (λ k i a b. sym (h .same k i a b))
-
-  lent-start : start t ≡ lent (replicate 72 (pos 0))
-  lent-start = lent-multipliers-cong (t .n) (t .horizon) _ _ (λ k i _ _. sym (zeros 72 (6 * k + i)))
-
-  pub running-start : Running t 0 (replicate 72 (pos 0)) (replicate 72 (pos 0))
-  running-start =
-      let blank : BlankMultipliers (t .n) (replicate 72 (pos 0)) = record { each = λ k i _ _. zeros 72 (6 * k + i) } in
-      record {
-        early = omega arith;
-        left = let e : t .rounds ≡ t .rounds - 0 = omega arith in rw (← e, lent-start);
-        blank = blank;
-        blank-previous = blank;
-        bounded = zeros-bounded 72;
-        bounded-previous = zeros-bounded 72;
-      }
 
   -- step 1
   lent-ahead : (k : ℕ) (y previous : List ℤ) {l : List ℤ} →
@@ -87,7 +61,7 @@ module _ (t : Tape) (legal : Legal t) where
     candidate-same : (k i : ℕ) → k < t .horizon → i < t .n → candidateOf t (lent l) .x k i ≡ candidate (problemOf t) (paddedPlan v .u) .x k i
     candidate-same = modelStates-cong (problemOf t) _ _ inputs-same
 
-    verdict-same : verdict t (candidateOf t (lent l)) (floorOf t (lent l)) ≡ verdict t (candidate (problemOf t) (paddedPlan v .u)) (floor (problemOf t) (padded l))
+    verdict-same : verdict t (candidateOf t (lent l)) (multipliersOf (t .n) (lent l)) ≡ verdict t (candidate (problemOf t) (paddedPlan v .u)) (padded l)
     unfolding verdict
     verdict-same =
         rw (
@@ -116,47 +90,67 @@ module _ (t : Tape) (legal : Legal t) where
     lent-ascended h =
         lent-multipliers-cong (t .n) (t .horizon) _ _ (λ k i a b. ap₂ (ascended (t .gain)) (lent-at l k i a b) (residual-same k i a b)) ∙ lent-held h
 
-    -- a round that is entered ends as its verdict r says
-    module _ {k : ℕ} {y previous : List ℤ} {r : Verdict} (running : Running t k y previous) (enters : k < t .rounds)
-        (held : HeldMultipliers (t .n) (t .horizon) (λ s i. ahead (pos k) (padded y s i) (padded previous s i)) l)
-        (e : r ≡ verdict t (candidate (problemOf t) (paddedPlan v .u)) (floor (problemOf t) (padded l))) where
-      abbrev after : Ending
-      after = rounds t (t .rounds - (k + 1)) (k + 1) (ascendedOf t (lent l)) (lent y)
+    -- the plan counts only where the verdict is 'proved'
+    ended-same : (r : Verdict) (plan : List ℤ) (k : ℕ) (y : List ℤ) (after : Ending) → HeldWhenProved r t (candidate (problemOf t) (paddedPlan v .u)) plan →
+        ended r k (lentPlan (t .n) (t .m) (t .horizon) (candidateOf t (lent l))) y after ≡ ended r k (lentPlan (t .n) (t .m) (t .horizon) (paddedPlan plan)) y after
+    ended-same (Proved gap) plan k y after h = ap (λ (p : List ℤ). proved k gap p y) (lent-candidate h)
+    ended-same Impossible plan k y after h = refl
+    ended-same Neither plan k y after h = refl
 
-      whole-is : {c : Verdict} → r ≡ c → rounds t (t .rounds) 0 (start t) (start t)
-          ≡ ended c (k + 1) (lentPlan (t .n) (t .m) (t .horizon) (candidateOf t (lent l))) (lent l) after
-      unfolding rounds
-      whole-is d =
-          let s : t .rounds - k ≡ suc (t .rounds - (k + 1)) = omega (arith, running .early) in
-          running .left ∙ ap (λ (left : ℕ). rounds t left k (lent y) (lent previous)) s
-          ∙ ap (λ (a : List ℤ). entered t k a (λ next. rounds t (t .rounds - (k + 1)) (k + 1) next (lent y))) (lent-ahead k y previous held)
-          ∙ ap (λ (c : Verdict). ended c (k + 1) (lentPlan (t .n) (t .m) (t .horizon) (candidateOf t (lent l))) (lent l) after) (verdict-same ∙ sym e ∙ d)
+    pub round-ends : (k : ℕ) (y previous plan : List ℤ) {next : List ℤ} {r : Verdict} →
+        HeldMultipliers (t .n) (t .horizon) (λ s i. ahead (pos k) (padded y s i) (padded previous s i)) l → r ≡ verdict t (candidate (problemOf t) (paddedPlan v .u)) (padded l) →
+        HeldWhenProved r t (candidate (problemOf t) (paddedPlan v .u)) plan →
+        HeldMultipliers (t .n) (t .horizon) (λ s i. ascended (t .gain) (padded l s i) (residual (problemOf t) (paddedPlan v) s i)) next → (after : List ℤ → Ending) →
+        entered t k (aheadOf t k (lent y) (lent previous)) after ≡ ended r (k + 1) (lentPlan (t .n) (t .m) (t .horizon) (paddedPlan plan)) (lent l) (after (lent next))
+    round-ends k y previous plan {r = r} held e h up after =
+        ap (λ (a : List ℤ). entered t k a after) (lent-ahead k y previous held)
+        ∙ ap₂ (λ (c : Verdict) (a : Ending). ended c (k + 1) (lentPlan (t .n) (t .m) (t .horizon) (candidateOf t (lent l))) (lent l) a)
+        (verdict-same ∙ sym e) (ap after (lent-ascended up))
+        ∙ ended-same r plan (k + 1) (lent l) _ h
 
-      pub proved-is : {gap : ℤ} (plan : List ℤ) → r ≡ Proved gap → HeldWhenProved r t (candidate (problemOf t) (paddedPlan v .u)) plan →
-          rounds t (t .rounds) 0 (start t) (start t) ≡ proved (k + 1) gap (lentPlan (t .n) (t .m) (t .horizon) (paddedPlan plan)) (lent l)
-      proved-is {gap} plan p h =
-          whole-is p
-          ∙ ap (λ (a : List ℤ). proved (k + 1) gap a (lent l))
-          (lent-candidate (subst (λ (c : Verdict). HeldWhenProved c t (candidate (problemOf t) (paddedPlan v .u)) plan) p h))
+-- ---- The rounds
 
-      pub impossible-is : r ≡ Impossible → rounds t (t .rounds) 0 (start t) (start t) ≡ impossible (k + 1) (lent l)
-      impossible-is p = whole-is p
+-- the rounds before round k gave no answer, and the state is what it starts from
+pub record Running (t : Tape) (k : ℕ) (s : RoundState) : Type 0 where
+  pub early : k ≤ t .rounds
+  pub left : rounds t (t .rounds) 0 (start t) (start t) ≡ rounds t (t .rounds - k) k (lentOf t (s .current)) (lentOf t (s .previous))
+  pub held : HeldState t s
 
-      pub running-next : {next : List ℤ} → r ≡ Neither →
-          HeldMultipliers (t .n) (t .horizon) (λ k i. ascended (t .gain) (padded l k i) (residual (problemOf t) (paddedPlan v) k i)) next →
-          Running t (k + 1) next y
-      running-next {next} n h = record {
-        early = omega arith;
-        left = whole-is n ∙ ap (λ (a : List ℤ). rounds t (t .rounds - (k + 1)) (k + 1) a (lent y)) (lent-ascended h);
-        blank = h .blank;
-        blank-previous = running .blank;
-        bounded = h .bounded;
-        bounded-previous = running .bounded;
-      }
+pub running-start : (t : Tape) (s : RoundState) → s .current ≡ replicate 72 (pos 0) → s .previous ≡ replicate 72 (pos 0) → Running t 0 s
+running-start t s c p =
+    let blank : BlankMultipliers (t .n) (replicate 72 (pos 0)) = record { each = λ k i _ _. zeros 72 (6 * k + i) } in
+    let none : start t ≡ lentOf t (replicate 72 (pos 0)) = lent-multipliers-cong (t .n) (t .horizon) _ _ (λ k i _ _. sym (zeros 72 (6 * k + i))) in
+    record {
+      early = omega arith;
+      left = let e : t .rounds ≡ t .rounds - 0 = omega arith in rw (← e, c, p, none);
+      held = record {
+        blank = rw c blank;
+        bounded = rw c (zeros-bounded 72);
+        blank-previous = rw p blank;
+        bounded-previous = rw p (zeros-bounded 72);
+      };
+    }
+
+module _ {t : Tape} {k : ℕ} {s : RoundState} (running : Running t k s) where
+  -- a round that is entered ends as its verdict says
+  module _ {r : Round} (enters : k < t .rounds) (round : RoundFrom t k s r) where
+    pub whole-is : {c : Verdict} → r .verdict ≡ c → rounds t (t .rounds) 0 (start t) (start t)
+        ≡ ended c (k + 1) (lentPlan (t .n) (t .m) (t .horizon) (paddedPlan (r .plan))) (lentOf t (r .ahead))
+        (rounds t (t .rounds - (k + 1)) (k + 1) (lentOf t (r .next .current)) (lentOf t (s .current)))
+    unfolding rounds
+    whole-is e =
+        let l : t .rounds - k ≡ suc (t .rounds - (k + 1)) = omega (arith, running .early) in
+        running .left ∙ ap (λ (left : ℕ). rounds t left k (lentOf t (s .current)) (lentOf t (s .previous))) l
+        ∙ round .ends (λ next. rounds t (t .rounds - (k + 1)) (k + 1) next (lentOf t (s .current)))
+        ∙ ap (λ (c : Verdict). ended c (k + 1) (lentPlan (t .n) (t .m) (t .horizon) (paddedPlan (r .plan))) (lentOf t (r .ahead))
+        (rounds t (t .rounds - (k + 1)) (k + 1) (lentOf t (r .next .current)) (lentOf t (s .current)))) e
+
+    pub running-next : r .verdict ≡ Neither → Running t (k + 1) (r .next)
+    running-next e = record { early = omega arith; left = rw (round .follows) (whole-is e); held = round .held }
 
   -- after the last round
-  pub open-is : {k : ℕ} {y previous : List ℤ} → Running t k y previous → t .rounds ≤ k → rounds t (t .rounds) 0 (start t) (start t) ≡ refused (Open (t .rounds))
+  pub open-is : t .rounds ≤ k → rounds t (t .rounds) 0 (start t) (start t) ≡ refused (Open (t .rounds))
   unfolding rounds
-  open-is {k} {y} {previous} running last =
+  open-is last =
       let e : t .rounds - k ≡ 0 = omega arith in
-      running .left ∙ ap (λ (left : ℕ). rounds t left k (lent y) (lent previous)) e
+      running .left ∙ ap (λ (left : ℕ). rounds t left k (lentOf t (s .current)) (lentOf t (s .previous))) e

@@ -22,9 +22,9 @@ use Rattle.primal.proofs.Padding.{model-padded}
 use Rattle.dual.specs.Slopes.{byPlace}
 use Rattle.dual.proofs.FloorPadding.{inputSlope-padded, stateSlope-padded}
 use Rattle.dual.proofs.ByPlace.{place-input, place-state}
-use Rattle.rounds.specs.Rounds.{ahead, minimiser, minimisers, ascended}
-use Rattle.rounds.specs.Held.{InputsWithin}
-use Rattle.rounds.proofs.Blank.{ahead-zero, ascended-zero, minimiser-blank, size-ahead, size-ascended, size-minimiser, minimiser-within}
+use Rattle.steps.specs.Steps.{ahead, minimiser, minimisers, ascended}
+use Rattle.steps.specs.Held.{InputsWithin}
+use Rattle.steps.proofs.Blank.{ahead-zero, ascended-zero, minimiser-blank, size-ahead, size-ascended, size-minimiser, minimiser-within}
 
 -- ---- Places filled from the front, with zeros behind them
 

@@ -6,11 +6,10 @@ use Rattle.tape.specs.declared.Tape.{Tape}
 use Rattle.tape.specs.declared.refusal.Refusal.{Refusal}
 use Rattle.tape.specs.declared.refusal.Refusal.the-variants.{Open}
 use Rattle.problem.specs.Model.{Plan, problemOf, multipliersOf, residual}
-use Rattle.problem.specs.Dual.{floorOf}
-use Rattle.rounds.specs.declared.Verdict.{Verdict}
-use Rattle.rounds.specs.declared.Verdict.the-variants as verdicts
+use Rattle.steps.specs.declared.verdict.Verdict.{Verdict}
+use Rattle.steps.specs.declared.verdict.Verdict.the-variants as verdicts
+use Rattle.steps.specs.Steps.{ahead, minimisers, candidate, verdict, ascended}
 use Rattle.rounds.specs.Lent.{lentMultipliers, lentPlan}
-use Rattle.rounds.specs.Rounds.{ahead, minimisers, candidate, verdict, ascended}
 
 -- ---- The steps on multipliers as they are lent
 
@@ -50,7 +49,7 @@ ended verdicts.Neither rounds plan y after = after
 -- Steps 2 to 4 of round k, from y~; `after` are the rounds after it, from the next y.
 abbrev pub entered : Tape → ℕ → List ℤ → (List ℤ → Ending) → Ending
 entered t k y after =
-    ended (verdict t (candidateOf t y) (floorOf t y)) (k + 1) (lentPlan (t .n) (t .m) (t .horizon) (candidateOf t y)) y (after (ascendedOf t y))
+    ended (verdict t (candidateOf t y) (multipliersOf (t .n) y)) (k + 1) (lentPlan (t .n) (t .m) (t .horizon) (candidateOf t y)) y (after (ascendedOf t y))
 
 -- Round k and those after it, from y and the y before it; the first argument counts the rounds left.
 unfoldable pub rounds : Tape → ℕ → ℕ → List ℤ → List ℤ → Ending

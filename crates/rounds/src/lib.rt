@@ -1,14 +1,8 @@
-// The rounds of a solve: document 01's four steps.
-mod arrays;
-mod candidate;
-mod numbers;
-
-ghost use Prim.Native.Nat.{_≤_};
+// A round from its state, by document 01's four steps, and the rounds of a solve.
+ghost use Prim.Native.Nat.{_<_, _≤_};
 ghost use mathlib.Core.Path.{_≡_};
-ghost use mathlib.Core.Bool.{cond};
 ghost use lib.ListN.{replicate};
 ghost use lib.IntN.{pos, natAbs};
-ghost use lib.Signed.{ltZ};
 ghost use Rattle.integer.specs.Places.{Bounded};
 ghost use Rattle.commands.specs.Ranges.{mostNumber, mostMultiplier};
 ghost use Rattle.tape.specs.Legal.{Legal};
@@ -17,56 +11,21 @@ ghost use Rattle.problem.specs.Dual.{floor, ceiling};
 ghost use Rattle.primal.specs.Padded.{padded, paddedPlan};
 ghost use Rattle.primal.specs.Terms.{TermsOf};
 ghost use Rattle.primal.specs.Held.{BlankPlan, BlankMultipliers, HeldPlan, HeldMultipliers};
-ghost use Rattle.rounds.specs.declared.Verdict.the-variants as verdicts;
-ghost use Rattle.rounds.specs.Rounds.{minimisers, candidate, verdict, ascended};
+ghost use Rattle.steps.specs.Steps.{minimisers, verdict, ascended};
 ghost use Rattle.rounds.specs.Running.{rounds, start};
-ghost use Rattle.rounds.specs.Held.{InputsWithin, HeldWhenProved, endingOf};
-use crate::arrays::minimisers;
-use crate::arrays::multipliers_ahead;
-use crate::arrays::multipliers_ascended;
-use crate::candidate::candidate_of;
+ghost use Rattle.rounds.specs.Held.{endingOf, HeldState, RoundFrom};
 use dual::floor::offset;
 use dual::pieces::pieces;
 use dual::slopes::slopes;
 use primal::cost::ceiling_of;
-use primal::cost::plan_cost;
 use primal::model::residuals;
 use primal::terms::Terms;
+use steps::arrays::minimisers;
+use steps::arrays::multipliers_ahead;
+use steps::arrays::multipliers_ascended;
+use steps::verdict::Verdict;
+use steps::verdict::weigh;
 use tape::Tape;
-
-// The multipliers y of a round, and those before them.
-pub struct RoundState {
-    pub current: [i64; 72],
-    pub previous: [i64; 72],
-}
-
-impl RoundState {
-    fn start() -> RoundState
-        ensures { λ r. ⌜ (r .current ≡ replicate 72 (pos 0)) × (r .previous ≡ replicate 72 (pos 0)) ⌝ }
-    {
-        let zeros = [0i64; 72];
-        RoundState {
-            current: zeros,
-            previous: zeros,
-        }
-    }
-
-    // Step 4: the next y from y~ and the residuals of the numbers v of step 2.
-    fn next(self, t: Tape, ahead: [i64; 72], v: [i64; 120]) -> RoundState
-        requires { ⌜ Legal t × BlankMultipliers (t .n) ahead × Bounded mostMultiplier ahead × BlankPlan (t .n) (t .m) v × Bounded mostNumber v ⌝ }
-        ensures { λ r. ⌜ r .previous ≡ self .current ⌝ }
-        ensures { λ r. ⌜ HeldMultipliers (t .n) (t .horizon) (λ k i. ascended (t .gain) (padded ahead k i) (residual (problemOf t) (paddedPlan v) k i)) (r .current) ⌝ }
-    {
-        let horizon = t.horizon;
-        let gain = t.gain;
-        let current = self.current;
-        let e = residuals(&t.a, &t.b, &t.drift, &t.start, &v, horizon);
-        RoundState {
-            current: multipliers_ascended(&ahead, &e, gain, horizon),
-            previous: current,
-        }
-    }
-}
 
 // The dual function at multipliers: its minimisers, which are the numbers of step 2, and its value,
 // the floor.
@@ -106,62 +65,67 @@ fn dual_at(t: Tape, terms: Terms, y: [i64; 72]) -> Dual
     }
 }
 
-pub enum Verdict {
-    Proved(i64),
-    Impossible,
-    Neither,
-}
-
-// The verdict on a floor with no accepted plan.
-fn without_plan(highest: i64, floor: i64) -> Verdict
-    ensures { λ r. ⌜ r ≡ cond (ltZ highest floor) verdicts.Impossible verdicts.Neither ⌝ }
-{
-    if highest < floor {
-        return Verdict::Impossible;
-    }
-    Verdict::Neither
-}
-
-// The verdict, and the candidate where it is 'proved'.
-pub struct Weighed {
-    pub verdict: Verdict,
-    pub plan: [i64; 120],
-}
-
-// Step 3, from the ceiling, the floor and the numbers v of step 2.
-fn weigh(t: Tape, terms: Terms, highest: i64, floor: i64, v: [i64; 120]) -> Weighed
-    requires { ⌜ Legal t × TermsOf t (terms .penalty) (terms .low) (terms .high) (terms .reference) ⌝ }
-    requires { ⌜ (highest ≡ ceiling (problemOf t)) × (natAbs floor ≤ 4541889529384009728) × InputsWithin (problemOf t) (paddedPlan v .u) × BlankPlan (t .n) (t .m) v × Bounded mostNumber v ⌝ }
-    ensures { λ r. ⌜ r .verdict ≡ verdict t (candidate (problemOf t) (paddedPlan v .u)) floor ⌝ }
-    ensures { λ r. ⌜ HeldWhenProved (r .verdict) t (candidate (problemOf t) (paddedPlan v .u)) (r .plan) × Bounded mostNumber (r .plan) ⌝ }
+// Step 4: the y after y~, from the residuals of the numbers v of step 2.
+fn ascend(t: Tape, ahead: [i64; 72], v: [i64; 120]) -> [i64; 72]
+    requires { ⌜ Legal t × BlankMultipliers (t .n) ahead × Bounded mostMultiplier ahead × BlankPlan (t .n) (t .m) v × Bounded mostNumber v ⌝ }
+    ensures { λ r. ⌜ HeldMultipliers (t .n) (t .horizon) (λ k i. ascended (t .gain) (padded ahead k i) (residual (problemOf t) (paddedPlan v) k i)) r ⌝ }
 {
     let horizon = t.horizon;
-    let candidate = candidate_of(t, terms, v);
-    let plan = candidate.plan;
-    if candidate.dropped {
-        return Weighed {
-            verdict: without_plan(highest, floor),
-            plan: plan,
-        };
+    let gain = t.gain;
+    let e = residuals(&t.a, &t.b, &t.drift, &t.start, &v, horizon);
+    multipliers_ascended(&ahead, &e, gain, horizon)
+}
+
+// The multipliers y of a round, and those before them.
+pub struct RoundState {
+    pub current: [i64; 72],
+    pub previous: [i64; 72],
+}
+
+// What a round gives: its verdict, the candidate where that is 'proved', y~, and the state that the
+// next round starts from.
+pub struct Round {
+    pub verdict: Verdict,
+    pub plan: [i64; 120],
+    pub ahead: [i64; 72],
+    pub next: RoundState,
+}
+
+impl RoundState {
+    fn start() -> RoundState
+        ensures { λ r. ⌜ (r .current ≡ replicate 72 (pos 0)) × (r .previous ≡ replicate 72 (pos 0)) ⌝ }
+    {
+        let zeros = [0i64; 72];
+        RoundState {
+            current: zeros,
+            previous: zeros,
+        }
     }
-    let cost = plan_cost(
-        &terms.penalty,
-        &terms.low,
-        &terms.high,
-        &terms.reference,
-        &plan,
-        horizon,
-    );
-    let gap = cost - floor;
-    if gap <= t.wanted {
-        return Weighed {
-            verdict: Verdict::Proved(gap),
+
+    // Round k, by the four steps; the ceiling is the same in all rounds.
+    fn round(self, t: Tape, terms: Terms, highest: i64, k: usize) -> Round
+        requires { ⌜ Legal t × TermsOf t (terms .penalty) (terms .low) (terms .high) (terms .reference) ⌝ }
+        requires { ⌜ (highest ≡ ceiling (problemOf t)) × (k < t .rounds) × HeldState t self ⌝ }
+        ensures { λ r. ⌜ RoundFrom t k self r ⌝ }
+    {
+        let horizon = t.horizon;
+        let current = self.current;
+        let ahead = multipliers_ahead(&self.current, &self.previous, k as i64, horizon);
+        let dual = dual_at(t, terms, ahead);
+        let v = dual.numbers;
+        let weighed = weigh(t, terms, highest, dual.floor, v);
+        let ascended = ascend(t, ahead, v);
+        let verdict = weighed.verdict;
+        let plan = weighed.plan;
+        Round {
+            verdict: verdict,
             plan: plan,
-        };
-    }
-    Weighed {
-        verdict: without_plan(highest, floor),
-        plan: plan,
+            ahead: ahead,
+            next: RoundState {
+                current: ascended,
+                previous: current,
+            },
+        }
     }
 }
 
@@ -184,43 +148,41 @@ pub fn run_rounds(t: Tape, terms: Terms) -> Outcome
     ensures { λ r. ⌜ rounds t (t .rounds) 0 (start t) (start t) ≡ endingOf t (r .ended) (r .plan) (r .multipliers) ⌝ }
     ensures { λ r. ⌜ Bounded mostNumber (r .plan) × Bounded mostMultiplier (r .multipliers) ⌝ }
 {
-    let horizon = t.horizon;
     let limit = t.rounds;
     let highest = ceiling_of(
         &terms.penalty,
         &terms.low,
         &terms.high,
         &terms.reference,
-        horizon,
+        t.horizon,
     );
     let mut state = RoundState::start();
     let mut k: usize = 0;
     while k < limit {
-        let ahead = multipliers_ahead(&state.current, &state.previous, k as i64, horizon);
-        let dual = dual_at(t, terms, ahead);
-        let v = dual.numbers;
-        let weighed = weigh(t, terms, highest, dual.floor, v);
-        let plan = weighed.plan;
-        let verdict = weighed.verdict;
-        k += 1;
+        let round = state.round(t, terms, highest, k);
+        let verdict = round.verdict;
+        let plan = round.plan;
+        let ahead = round.ahead;
+        let entered = k + 1;
         match verdict {
             Verdict::Proved(gap) => {
                 return Outcome {
-                    ended: Ended::Proved(k, gap),
+                    ended: Ended::Proved(entered, gap),
                     plan: plan,
                     multipliers: ahead,
                 };
             }
             Verdict::Impossible => {
                 return Outcome {
-                    ended: Ended::Impossible(k),
+                    ended: Ended::Impossible(entered),
                     plan: plan,
                     multipliers: ahead,
                 };
             }
             Verdict::Neither => {}
         }
-        state = state.next(t, ahead, v);
+        state = round.next;
+        k = entered;
     }
     let plan = [0i64; 120];
     let multipliers = [0i64; 72];

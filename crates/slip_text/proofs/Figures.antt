@@ -17,8 +17,8 @@ use Rattle.problem.specs.Model.{stateAt, modelSum, rounded, residual}
 use Rattle.problem.specs.Cost.{total, cost, planCost}
 use Rattle.problem.specs.Dual.{inputSlope, adjoint, carried, stateSlope, conjugate, tilt, piece, pieces, constant, sizes, floor, larger, most, ceiling}
 use Rattle.problem.proofs.Figures.{bytes, wide, narrow, ample}
+use Rattle.steps.specs.Steps.{ahead, minimiser, modelStates, dropped, verdict, ascended}
 use Rattle.rounds.specs.Lent.{listed, joined}
-use Rattle.rounds.specs.Rounds.{ahead, minimiser, modelStates, dropped, verdict, ascended}
 use Rattle.rounds.specs.Running.{rounds}
 use Rattle.solver.specs.declared.Duties.{Duties}
 use Rattle.solver.specs.declared.Solved.the-variants.{Proved, Refused}

@@ -6,12 +6,11 @@ use mathlib.Core.List.{List, [], _∷_}
 use native.Mathlib.Omega.{arith}
 use borrow.Author.Tests.{eq-eqb}
 use lib.ListN.{length}
-use lib.IntN.{ℤ, pos, _-ℤ_, negℤ}
-use lib.Signed.{leZ, ltZ}
+use lib.IntN.{ℤ, pos}
+use lib.Signed.{leZ}
 use Rattle.integer.specs.Places.{Bounded}
 use Rattle.integer.specs.Tests.{any}
 use Rattle.integer.proofs.Order.{order}
-use Rattle.integer.proofs.Limited.{size-limited}
 use Rattle.integer.proofs.Operand.{Bytes}
 use Rattle.integer.proofs.Tests.{by-test, None, none, in-range, not-less, any-none}
 use Rattle.commands.specs.Ranges.{mostMultiplier}
@@ -19,9 +18,9 @@ use Rattle.tape.specs.declared.Answer.{Answer}
 use Rattle.tape.specs.declared.Answer.the-variants as answer
 use Rattle.tape.specs.declared.Tape.{Tape}
 use Rattle.tape.specs.Reading.{reading}
-use Rattle.problem.specs.Model.{Problem, Plan, problemOf, planOf, rounded}
-use Rattle.problem.specs.Cost.{planCost, Follows}
-use Rattle.problem.specs.Dual.{floorOf, ceiling}
+use Rattle.problem.specs.Model.{Problem, Plan, problemOf, planOf, multipliersOf, rounded}
+use Rattle.problem.specs.Cost.{Follows}
+use Rattle.problem.specs.Dual.{shows}
 use Rattle.problem.proofs.Congruence.{model-cong, cost-cong}
 use Rattle.primal.proofs.HeldSteps.{states-before}
 use Rattle.lent.specs.Checks.{wrongPlanLength, wrongMultipliersLength}
@@ -30,11 +29,12 @@ use Rattle.judge.specs.declared.Judged.the-variants.{Gap}
 use Rattle.judge.specs.declared.Shown.the-variants.{Shown}
 use Rattle.judge.specs.Judging.{gapWithin, judgedOn, judged, shownOn, shown}
 use Rattle.judge.proofs.Accepted.{passes, backed, founded}
+use Rattle.steps.specs.Steps.{modelStates, candidate, exceeds, dropped, gap, verdict}
+use Rattle.steps.proofs.Blank.{size-ahead}
+use Rattle.steps.proofs.ModelStates.{model-states}
 use Rattle.rounds.specs.Lent.{lentPlan}
-use Rattle.rounds.specs.Rounds.{ahead, modelStates, candidate, exceeds, dropped, verdict}
 use Rattle.rounds.specs.Running.{aheadOf, candidateOf, Ending, proved, impossible, refused, ended, rounds}
 use Rattle.rounds.proofs.Lent.{length-lent-multipliers, lent-multipliers-bounded, length-lent-plan, lent-plan-input, lent-plan-state}
-use Rattle.rounds.proofs.ModelStates.{model-states}
 use Rattle.solver.specs.declared.Solved.{Solved}
 use Rattle.solver.specs.declared.Solved.the-variants.{Proved, Impossible, Refused}
 use Rattle.solver.specs.Solving.{solvingOn, endingAfterRead, solving, firstDuties, answerOf, planLeft, multipliersLeft}
@@ -74,19 +74,17 @@ follows-cong q v w eu ex f = record {
 
 -- each multiplier of a round is limited to the range
 ahead-bounded : (t : Tape) (k : ℕ) (y previous : List ℤ) → Bounded mostMultiplier (aheadOf t k y previous)
-unfolding ahead
-ahead-bounded t k y previous =
-    lent-multipliers-bounded (t .n) (t .horizon) _ (λ _ _ _ _. size-limited (negℤ (pos mostMultiplier)) (pos mostMultiplier) _ (omega arith) (omega arith))
+ahead-bounded t k y previous = lent-multipliers-bounded (t .n) (t .horizon) _ (λ _ _ _ _. size-ahead (pos k) _ _)
 
 -- the plan that a round from y writes, and its gap
 abbrev written : Tape → List ℤ → List ℤ
 written t y = lentPlan (t .n) (t .m) (t .horizon) (candidateOf t y)
 
-abbrev gap : Tape → List ℤ → ℤ
-gap t y = planCost (problemOf t) (candidateOf t y) -ℤ floorOf t y
+abbrev writtenGap : Tape → List ℤ → ℤ
+writtenGap t y = gap (problemOf t) (candidateOf t y) (multipliersOf (t .n) y)
 
 module _ (t : Tape) (y : List ℤ) (long : length y ≡ t .horizon * t .n) (bounded : Bounded mostMultiplier y) where
-  gap-again : dropped (problemOf t) (candidateOf t y) ≡ false → leZ (gap t y) (t .wanted) ≡ true → judgedOn t (written t y) y ≡ Gap (gap t y)
+  gap-again : dropped (problemOf t) (candidateOf t y) ≡ false → leZ (writtenGap t y) (t .wanted) ≡ true → judgedOn t (written t y) y ≡ Gap (writtenGap t y)
   unfolding judgedOn gapWithin
   gap-again d g =
       let v = candidateOf t y in
@@ -99,10 +97,10 @@ module _ (t : Tape) (y : List ℤ) (long : length y ≡ t .horizon * t .n) (boun
         bounded-multipliers y bounded,
         passes (problemOf t) w (follows-cong (problemOf t) v w inputs states (kept-follows (problemOf t) _ d)),
         cost-cong (problemOf t) w v inputs states,
-        not-less (t .wanted) (gap t y) (omega (arith, order)),
+        not-less (t .wanted) (writtenGap t y) (omega (arith, order)),
       )
 
-  shown-again : ltZ (ceiling (problemOf t)) (floorOf t y) ≡ true → shownOn t y ≡ Shown
+  shown-again : shows (problemOf t) (multipliersOf (t .n) y) ≡ true → shownOn t y ≡ Shown
   unfolding shownOn
   shown-again e = rw (eq-eqb _ _ long, bounded-multipliers y bounded, e)
 
@@ -122,14 +120,14 @@ module _ (s : List ℕ) (plan y : List ℤ) where
 
   module _ (accepted : reading s .answer ≡ answer.Accepted) where
     round-again : (k : ℕ) (y~ : List ℤ) (after : Ending) → k + 1 ≤ t .rounds → length y~ ≡ t .horizon * t .n → Bounded mostMultiplier y~ → Again after →
-        Again (ended (verdict t (candidateOf t y~) (floorOf t y~)) (k + 1) (written t y~) y~ after)
+        Again (ended (verdict t (candidateOf t y~) (multipliersOf (t .n) y~)) (k + 1) (written t y~) y~ after)
     unfolding verdict judged shown
     round-again k y~ after h l b a =
         by-test (λ v. Again (ended v (k + 1) (written t y~) y~ after))
-        (cond (dropped (problemOf t) (candidateOf t y~)) false (leZ (gap t y~) (t .wanted)))
+        (cond (dropped (problemOf t) (candidateOf t y~)) false (leZ (writtenGap t y~) (t .wanted)))
         (λ e. let p = kept-and (dropped (problemOf t) (candidateOf t y~)) _ e in
         ((omega arith, h), rw accepted (gap-again t y~ l b (p .0) (p .1))))
-        (λ _. by-test (λ v. Again (ended v (k + 1) (written t y~) y~ after)) (ltZ (ceiling (problemOf t)) (floorOf t y~))
+        (λ _. by-test (λ v. Again (ended v (k + 1) (written t y~) y~ after)) (shows (problemOf t) (multipliersOf (t .n) y~))
         (λ e. ((omega arith, h), rw accepted (shown-again t y~ l b e))) (λ _. a))
 
     rounds-again : (left k : ℕ) (now previous : List ℤ) → k + left ≤ t .rounds → Again (rounds t left k now previous)

@@ -19,9 +19,11 @@ use Rattle.problem.proofs.Figures.{bytes, wide, narrow, ample, table}
 use Rattle.lent.specs.Checks.{first, tested, stateCheck, stepCheck, planCheck}
 use Rattle.judge.specs.declared.Judged.{Judged}
 use Rattle.judge.specs.declared.Judged.the-variants as judgement
-use Rattle.judge.specs.Judging.{gapWithin, judgedOn, judged}
+use Rattle.judge.specs.declared.Shown.{Shown}
+use Rattle.judge.specs.declared.Shown.the-variants as showing
+use Rattle.judge.specs.Judging.{gapWithin, judgedOn, judged, shownOn, shown}
+use Rattle.steps.specs.Steps.{ahead, minimiser, modelStates, dropped, verdict, ascended}
 use Rattle.rounds.specs.Lent.{listed, joined}
-use Rattle.rounds.specs.Rounds.{ahead, minimiser, modelStates, dropped, verdict, ascended}
 use Rattle.rounds.specs.Running.{Ending, proved, impossible, refused, rounds}
 use Rattle.solver.specs.Solving.{solvingOn, solving}
 
@@ -32,6 +34,10 @@ refusal why = pos (row why .number) ∷ pos (figure (row why .carries)) ∷ []
 abbrev judgement-row : Judged → List ℤ
 judgement-row (judgement.Gap gap) = pos 0 ∷ gap ∷ []
 judgement-row (judgement.Refused why) = refusal why
+
+abbrev shown-row : Shown → List ℤ
+shown-row showing.Shown = pos 0 ∷ []
+shown-row (showing.Refused why) = refusal why
 
 -- of a solve: 0, the rounds, the gap, the plan and the multipliers
 abbrev ending-row : Ending → List ℤ
@@ -59,11 +65,13 @@ whole =
     (judge (wanting (0x00 ∷ 0x80 ∷ 0x00 ∷ 0x00 ∷ [])), pos 0 ∷ pos 32768 ∷ []) ∷ (judge (wanting (0xFF ∷ 0x7F ∷ 0x00 ∷ 0x00 ∷ [])), pos 13 ∷ pos 0 ∷ [])
     -- M8
     ∷ (solve (wanting (0x30 ∷ 0x75 ∷ 0x00 ∷ 0x00 ∷ [])), pos 15 ∷ pos 5 ∷ [])
+    -- M9: y = −100 is judged, and shows impossibility
+    ∷ (shown-row (shown (bytes narrow ample) (negsuc 99 ∷ [])), pos 0 ∷ [])
     -- tape F's own slip, and M9's tape solved
     ∷ (solve (wanting ample), pos 0 ∷ pos 2 ∷ pos 32768 ∷ pos 4 ∷ pos 102 ∷ negsuc 15 ∷ [])
     ∷ (solve (bytes narrow ample), pos 0 ∷ pos 2 ∷ negsuc 233 ∷ [])
     ∷ []
 
 pub figures : map (λ f. f .0) whole ≡ map (λ f. f .1) whole
-unfolding unsigned signed _÷_ sum sizeCommand stateCommand inputCommand driftCommand columnCommand startCommand roundsCommand decoded wrongSize beyond outside wrongColumn wrong among required obeySize obeyEntry absent obeyEnd obey next readFrom reading stateAt modelSum rounded residual total cost planCost inputSlope adjoint carried stateSlope conjugate tilt piece pieces constant sizes floor larger most ceiling limited any first limits meets tested stateCheck stepCheck planCheck gapWithin judgedOn judged listed joined ahead minimiser modelStates dropped verdict ascended rounds solvingOn solving
+unfolding unsigned signed _÷_ sum sizeCommand stateCommand inputCommand driftCommand columnCommand startCommand roundsCommand decoded wrongSize beyond outside wrongColumn wrong among required obeySize obeyEntry absent obeyEnd obey next readFrom reading stateAt modelSum rounded residual total cost planCost inputSlope adjoint carried stateSlope conjugate tilt piece pieces constant sizes floor larger most ceiling limited any first limits meets tested stateCheck stepCheck planCheck gapWithin judgedOn judged shownOn shown listed joined ahead minimiser modelStates dropped verdict ascended rounds solvingOn solving
 figures = refl

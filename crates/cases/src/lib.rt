@@ -1,8 +1,9 @@
 // Cases of the test programs: a line each, `read HEX`, `judge HEX / numbers / numbers`,
 // `show HEX / numbers` or `solve HEX / numbers / numbers`, as the second program takes them. What
 // follows a # is passed over.
+use tape::refusal::Carried;
 use tape::refusal::Refusal;
-use tape::refusal::carried;
+use tape::refusal::carries;
 use tape::refusal::number;
 
 // A case as far as it has been read, character by character. The kind is a letter of the line's
@@ -155,11 +156,12 @@ fn narrow(x: i64) -> i32 {
 
 // Writes a refusal: its number, and what it carries, an offset or R, or `-`.
 pub fn refused(why: Refusal) {
-    let n = number(why);
     print::word(b"refused");
-    print::unsigned(n as u64);
-    match n {
-        9..=14 => print::word(b" -"),
-        _ => print::unsigned(carried(why) as u64),
+    print::unsigned(number(why) as u64);
+    let carried = carries(why);
+    match carried {
+        Carried::Offset(at) => print::unsigned(at as u64),
+        Carried::Nothing => print::word(b" -"),
+        Carried::Rounds(rounds) => print::unsigned(rounds as u64),
     }
 }

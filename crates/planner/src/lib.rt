@@ -23,7 +23,7 @@ use tape::Answer;
 use tape::Tape;
 use tape::read;
 use tape::refusal::Refusal;
-use tape::refusal::carried;
+use tape::refusal::figure;
 use tape::refusal::number;
 
 // Reads a tape. `out` then holds its numbers.
@@ -112,7 +112,7 @@ fn code(why: Refusal) -> u64
     requires { ⌜ figure (row why .carries) ≤ 10000 ⌝ }
     ensures { λ r. ⌜ r ≡ codeOf why ⌝ }
 {
-    (number(why) + 256 * carried(why)) as u64
+    (number(why) + 256 * figure(why)) as u64
 }
 
 // Puts numbers into `out` from a place on.

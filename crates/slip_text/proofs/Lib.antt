@@ -2,5 +2,4 @@
 pub mod Appending
 pub mod Digits
 pub mod Figures
-pub mod SlipLines
-pub mod TapeSizes
+pub mod FirstLine

@@ -1,16 +1,17 @@
 -- Document 01, "Firing slip": the lines that the printing program writes.
-use Prim.Native.Nat.{ℕ, _+_, _*_}
+use Prim.Native.Nat.{ℕ, _-_, _≤_}
+use mathlib.Core.Path.{_≡_}
 use mathlib.Core.List.{List, [], _∷_, _++_}
-use lib.ListN.{take}
+use lib.ListN.{length, take, replicate}
 use lib.IntN.{ℤ}
-use Rattle.tape.specs.Reading.{reading}
-use Rattle.tape.specs.Refusals.{Carried, offset, nothing, rounds, row}
-use Rattle.tape.specs.Tape.{zeros}
-use Rattle.tape.specs.declared.Tape.{Tape}
+use Rattle.tape.specs.declared.refusal.Carried.{Carried}
+use Rattle.tape.specs.declared.refusal.Carried.the-variants.{Offset, Nothing, Rounds}
+use Rattle.tape.specs.Refusals.{row}
 use Rattle.solver.specs.declared.Duties.{Duties}
 use Rattle.solver.specs.declared.Solved.{Solved}
 use Rattle.solver.specs.declared.Solved.the-variants.{Proved, Impossible, Refused}
-use Rattle.solver.specs.Solving.{answerOf, solving}
+use Rattle.solution.specs.Solution.{solutionOf}
+use Rattle.slip_text.specs.declared.text.Text.{Text}
 use Rattle.slip_text.specs.Decimal.{text, decimal, signedDecimal}
 
 -- Every line ends with a newline.
@@ -38,12 +39,15 @@ duties m first = take m (first .u0 ∷ first .u1 ∷ first .u2 ∷ first .u3 ∷
 abbrev pub firstLine : ℕ → Duties → List ℕ
 firstLine m first = line (text "first" ++ spaced (duties m first))
 
+abbrev pub refusedNumber : ℕ → List ℕ
+refusedNumber number = text "refused " ++ decimal number
+
 -- A refusal by its number and what it carries: a tape's refusal has an offset, 'open' the rounds. The refusals 9 to 14
 -- carry nothing; the printing program never meets one, since it lends slices of the right lengths and judges nothing.
 abbrev pub refusalLines : ℕ → Carried → List ℕ
-refusalLines number (offset at) = line ((text "refused " ++ decimal number) ++ (text " at " ++ decimal at))
-refusalLines number nothing = line (text "refused " ++ decimal number)
-refusalLines number (rounds R) = line (text "open") ++ roundsLine R
+refusalLines number (Offset at) = line (refusedNumber number ++ (text " at " ++ decimal at))
+refusalLines number Nothing = line (refusedNumber number)
+refusalLines number (Rounds R) = line (text "open") ++ roundsLine R
 
 -- The slip of a solve's answer, for m inputs.
 abbrev pub slip : Solved → ℕ → List ℕ
@@ -51,10 +55,15 @@ slip (Proved R gap first) m = line (text "proved") ++ roundsLine R ++ gapLine ga
 slip (Impossible R) m = line (text "impossible") ++ roundsLine R
 slip (Refused why) m = refusalLines (row why .number) (row why .carries)
 
--- The answer to a tape when slices of zeros, of the lengths that it asks for, are lent.
-abbrev pub answered : List ℕ → Tape → Solved
-answered s t = answerOf t (solving s (zeros (t .horizon * (t .n + t .m))) (zeros (t .horizon * t .n)))
-
 -- The slip of a tape.
 abbrev pub tapeSlip : List ℕ → List ℕ
-tapeSlip s = slip (answered s (reading s .tape)) (reading s .tape .m)
+tapeSlip s = slip (solutionOf s .answer) (solutionOf s .tape .m)
+
+-- A text in its buffer: the bytes, then zeros.
+abbrev pub textOf : List ℕ → Text
+textOf s = record { bytes = s ++ replicate (160 - length s) 0; length = length s }
+
+-- What lending `&bytes[..length]` asks. It holds of every `textOf s`; said apart, it spares the caller a law of lists.
+pub record Lendable (t : Text) : Type 0 where
+  pub inside : t .length ≤ length (t .bytes)
+  pub counted : t .length ≡ length (take (t .length) (t .bytes))

@@ -3,14 +3,16 @@ ghost use Prim.Native.Nat.{_+_, _≤_};
 ghost use mathlib.Core.Bool.{cond};
 ghost use mathlib.Core.List.{_++_, []};
 ghost use lib.ListN.{length};
+ghost use Rattle.tape.specs.declared.refusal.Carried.{Carried};
 ghost use Rattle.tape.specs.Refusals.{row};
 ghost use Rattle.solver.specs.declared.Solved.{Solved};
-ghost use Rattle.slip_text.specs.Slip.{roundsLine, gapLine, blankAnd, firstLine, refusalLines, slip};
+ghost use Rattle.slip_text.specs.Slip.{roundsLine, gapLine, blankAnd, firstLine, refusedNumber, refusalLines, slip};
 ghost use Rattle.slip_text.specs.Written.{Holds, Appended};
 use crate::text::Text;
 use solver::Duties;
+use tape::refusal::Carried;
 use tape::refusal::Refusal;
-use tape::refusal::carried;
+use tape::refusal::carries;
 use tape::refusal::number;
 
 fn with_rounds(text: Text, rounds: usize) -> Text
@@ -73,21 +75,32 @@ pub fn proved(rounds: usize, gap: i64, first: Duties, m: usize) -> Text
     with_first(bounded, first, m)
 }
 
+fn refused_number(number: usize) -> Text
+    ensures { λ r. ⌜ Holds r (refusedNumber number) ⌝ }
+    ensures { λ r. ⌜ r .length ≤ 28 ⌝ }
+{
+    let empty = Text::empty();
+    let named = empty.with_word(b"refused ");
+    named.with_number(number as u64)
+}
+
+fn refused_at(number: usize, at: usize) -> Text
+    ensures { λ r. ⌜ Holds r (refusalLines number (Carried.Offset at)) ⌝ }
+{
+    let numbered = refused_number(number);
+    let named = numbered.with_word(b" at ");
+    let placed = named.with_number(at as u64);
+    placed.with_word(b"\n")
+}
+
 pub fn refused(why: Refusal) -> Text
     ensures { λ r. ⌜ Holds r (refusalLines (row why .number) (row why .carries)) ⌝ }
 {
     let n = number(why);
-    let figure = carried(why);
-    if n == 15 {
-        return kind_and_rounds(b"open\n", figure);
+    let carried = carries(why);
+    match carried {
+        Carried::Offset(at) => refused_at(n, at),
+        Carried::Nothing => refused_number(n).with_word(b"\n"),
+        Carried::Rounds(rounds) => kind_and_rounds(b"open\n", rounds),
     }
-    let empty = Text::empty();
-    let named = empty.with_word(b"refused ");
-    let numbered = named.with_number(n as u64);
-    if n < 9 {
-        let at = numbered.with_word(b" at ");
-        let placed = at.with_number(figure as u64);
-        return placed.with_word(b"\n");
-    }
-    numbered.with_word(b"\n")
 }

@@ -42,25 +42,43 @@ pub fn number(refusal: Refusal) -> usize
     }
 }
 
-// What it carries: an offset, the rounds R, or 0 for nothing.
-pub fn carried(refusal: Refusal) -> usize
-    ensures { λ r. ⌜ r ≡ figure (row refusal .carries) ⌝ }
+// What a refusal carries: an offset of the tape, nothing, or the rounds R.
+pub enum Carried {
+    Offset(usize),
+    Nothing,
+    Rounds(usize),
+}
+
+pub fn carries(refusal: Refusal) -> Carried
+    ensures { λ r. ⌜ r ≡ row refusal .carries ⌝ }
 {
     match refusal {
-        Refusal::Cut(at) => at,
-        Refusal::Unknown(at) => at,
-        Refusal::Misplaced(at) => at,
-        Refusal::NoSuchPlace(at) => at,
-        Refusal::OutOfRange(at) => at,
-        Refusal::Twice(at) => at,
-        Refusal::Absent(at) => at,
-        Refusal::Overrun(at) => at,
-        Refusal::Length => 0,
-        Refusal::OffModel => 0,
-        Refusal::OverLimit => 0,
-        Refusal::Multiplier => 0,
-        Refusal::Wide => 0,
-        Refusal::NotShown => 0,
-        Refusal::Open(rounds) => rounds,
+        Refusal::Cut(at) => Carried::Offset(at),
+        Refusal::Unknown(at) => Carried::Offset(at),
+        Refusal::Misplaced(at) => Carried::Offset(at),
+        Refusal::NoSuchPlace(at) => Carried::Offset(at),
+        Refusal::OutOfRange(at) => Carried::Offset(at),
+        Refusal::Twice(at) => Carried::Offset(at),
+        Refusal::Absent(at) => Carried::Offset(at),
+        Refusal::Overrun(at) => Carried::Offset(at),
+        Refusal::Length => Carried::Nothing,
+        Refusal::OffModel => Carried::Nothing,
+        Refusal::OverLimit => Carried::Nothing,
+        Refusal::Multiplier => Carried::Nothing,
+        Refusal::Wide => Carried::Nothing,
+        Refusal::NotShown => Carried::Nothing,
+        Refusal::Open(rounds) => Carried::Rounds(rounds),
+    }
+}
+
+// What it carries as one number, 0 for nothing.
+pub fn figure(refusal: Refusal) -> usize
+    ensures { λ r. ⌜ r ≡ figure (row refusal .carries) ⌝ }
+{
+    let carried = carries(refusal);
+    match carried {
+        Carried::Offset(at) => at,
+        Carried::Nothing => 0,
+        Carried::Rounds(rounds) => rounds,
     }
 }

@@ -7,8 +7,8 @@ use Rattle.planner.proofs.code.Tie as tie
 number-requires : tie.Need-number-requires
 number-requires c κs = search needs
 
-carried-requires : tie.Need-carried-requires
-carried-requires c κs = search needs
+figure-requires : tie.Need-figure-requires
+figure-requires c κs = search needs
 
 mul-result : tie.Need-mul-result
 mul-result c = search needs
@@ -20,4 +20,4 @@ returns : tie.Need-returns
 returns c = search needs
 
 pub code-spec : {M : Type 1} → statement M
-code-spec = tie.close (tie.spec number-requires carried-requires mul-result add-result returns)
+code-spec = tie.close (tie.spec number-requires figure-requires mul-result add-result returns)

@@ -1,6 +1,5 @@
 use borrow.Author.Needs.{needs}
 use Rattle.integer.proofs.Sizes.{called}
-use Rattle.slip_text.proofs.Appending.{promised}
 use Rattle.slip_text.proofs.slip_of.Statement.{statement}
 use Rattle.slip_text.proofs.slip_of.Tie as tie
 
@@ -29,13 +28,13 @@ returns : tie.Need-returns
 returns c =
     let k = c .before .known-told .given in
     let a = c .before .before .answer .given in
-    rw (a .1) (promised (rw (called (a .0 .1 .0) (k .1 .0 .1)) at (c .proved .ensures)))
+    rw (a .1) ((rw (called (a .0 .1 .0) (k .1 .0 .1)) at (c .proved .ensures)) .is)
 
 returns-2 : tie.Need-returns-2
-returns-2 c = rw (c .before .before .before .answer2 .given .1) (promised (c .kind-and-rounds .ensures .0))
+returns-2 c = rw (c .before .before .before .answer2 .given .1) (c .kind-and-rounds .ensures .0 .is)
 
 returns-3 : tie.Need-returns-3
-returns-3 c = rw (c .before .before .answer3 .given .1) (promised (c .refused .ensures))
+returns-3 c = rw (c .before .before .answer3 .given .1) (c .refused .ensures .is)
 
 pub slip-of-spec : {M : Type 1} → statement M
 slip-of-spec =

@@ -7,7 +7,7 @@ use mir.Val.{toZ, ofZ}
 use mir.Facts.{toZ-ofZ}
 use borrow.Author.Needs.{needs}
 use Rattle.slip_text.proofs.Appending.{appended-none, appended-then}
-use Rattle.slip_text.proofs.SlipLines.{four-duties}
+use Rattle.slip_text.proofs.FirstLine.{four-duties}
 use Rattle.slip_text.proofs.lines.with_first.Statement.{statement}
 use Rattle.slip_text.proofs.lines.with_first.Tie as tie
 

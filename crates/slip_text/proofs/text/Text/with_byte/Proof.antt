@@ -11,7 +11,7 @@ add-self : tie.Need-add-self
 add-self c = search needs
 
 returns : tie.Need-returns
-returns c = appended-byte (search needs) refl refl (search needs)
+returns c = appended-byte (search needs) refl
 
 pub with-byte-spec : {M : Type 1} → statement M
 with-byte-spec = tie.close (tie.spec element-write-self add-self returns)

@@ -1,11 +1,12 @@
 -- The sizes of any tape, refused ones included, and the zeros that are lent for it.
-use Prim.Native.Nat.{ℕ, zero, suc, _+_, _*_, _≤_}
-use mathlib.Core.Path.{_≡_, refl, ap}
+use Prim.Native.Nat.{ℕ, zero, suc, _+_, _-_, _≤_}
+use mathlib.Core.Path.{_≡_, refl, sym, _∙_, ap}
 use mathlib.Core.Logic.{_⊎_, inl, inr, ⊎-elim}
-use mathlib.Core.List.{List, _∷_}
+use mathlib.Core.List.{List, _++_}
 use native.Mathlib.Nat.{mul-le-mul}
 use native.Mathlib.Omega.{arith}
-use lib.ListN.{length, take}
+use lib.ListN.{length, take, drop, length-replicate, replicate-append-replicate}
+use lib.Seq.{take-at, drop-at}
 use lib.IntN.{pos}
 use Rattle.integer.proofs.Operand.{Bytes}
 use Rattle.tape.specs.Legal.{Legal}
@@ -18,6 +19,7 @@ use Rattle.tape.specs.declared.reader.Reader.{Reader}
 use Rattle.tape.specs.declared.reader.Verdict.{Verdict}
 use Rattle.tape.specs.declared.reader.Verdict.the-variants.{Going, Ended, Refused}
 use Rattle.tape.proofs.Facts.{legal}
+use Rattle.solution.specs.Solution.{planNumbers, multiplierNumbers}
 
 -- a tape is accepted, or all its numbers are 0
 abbrev Read : Reading → Type 0
@@ -40,8 +42,8 @@ read-all s = go (length s) opened
 pub record Room (t : Tape) : Type 0 where
   pub states : t .n ≤ 6
   pub inputs : t .m ≤ 4
-  pub plan : t .horizon * (t .n + t .m) ≤ 120
-  pub multipliers : t .horizon * t .n ≤ 72
+  pub plan : planNumbers t ≤ 120
+  pub multipliers : multiplierNumbers t ≤ 72
 
 pub room : (s : List ℕ) → Bytes s → Room (reading s .tape)
 room s b =
@@ -59,8 +61,13 @@ room s b =
           multipliers = omega (arith, mul-le-mul (l .steps .1) (l .states .1));
         }
 
--- the first k of n zeros
+-- ---- The first k of n zeros, and those behind them
+
+zeros-parted : (k n : ℕ) → k ≤ n → zeros n ≡ zeros k ++ zeros (n - k)
+zeros-parted k n h = let e : k + (n - k) ≡ n = omega arith in sym (replicate-append-replicate k (n - k) (pos 0) ∙ ap zeros e)
+
 pub take-zeros : (k n : ℕ) → k ≤ n → take k (zeros n) ≡ zeros k
-take-zeros zero n h = refl
-take-zeros (suc k) zero h = let z : ⊥ = omega arith in absurd z
-take-zeros (suc k) (suc n) h = ap (λ l. pos 0 ∷ l) (take-zeros k n (omega arith))
+take-zeros k n h = ap (take k) (zeros-parted k n h) ∙ take-at (zeros k) (zeros (n - k)) k (length-replicate k (pos 0))
+
+pub drop-zeros : (k n : ℕ) → k ≤ n → drop k (zeros n) ≡ zeros (n - k)
+drop-zeros k n h = ap (drop k) (zeros-parted k n h) ∙ drop-at (zeros k) (zeros (n - k)) k (length-replicate k (pos 0))

@@ -1,0 +1,3 @@
+-- Laws behind the proofs.
+pub mod Promise
+pub mod TapeSizes

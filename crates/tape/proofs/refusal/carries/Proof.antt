@@ -1,0 +1,128 @@
+use borrow.Author.Needs.{needs}
+use Rattle.tape.proofs.refusal.carries.Statement.{statement}
+use Rattle.tape.proofs.refusal.carries.Tie as tie
+
+enum-known-refusal : tie.Need-enum-known-refusal
+enum-known-refusal c = search needs
+
+enum-known-refusal-2 : tie.Need-enum-known-refusal-2
+enum-known-refusal-2 c = search needs
+
+enum-known-refusal-3 : tie.Need-enum-known-refusal-3
+enum-known-refusal-3 c = search needs
+
+enum-known-refusal-4 : tie.Need-enum-known-refusal-4
+enum-known-refusal-4 c = search needs
+
+enum-known-refusal-5 : tie.Need-enum-known-refusal-5
+enum-known-refusal-5 c = search needs
+
+enum-known-refusal-6 : tie.Need-enum-known-refusal-6
+enum-known-refusal-6 c = search needs
+
+enum-known-refusal-7 : tie.Need-enum-known-refusal-7
+enum-known-refusal-7 c = search needs
+
+enum-known-refusal-8 : tie.Need-enum-known-refusal-8
+enum-known-refusal-8 c = search needs
+
+enum-told : tie.Need-enum-told
+enum-told c = search needs
+
+enum-told-2 : tie.Need-enum-told-2
+enum-told-2 c = search needs
+
+enum-told-3 : tie.Need-enum-told-3
+enum-told-3 c = search needs
+
+enum-told-4 : tie.Need-enum-told-4
+enum-told-4 c = search needs
+
+enum-told-5 : tie.Need-enum-told-5
+enum-told-5 c = search needs
+
+enum-told-6 : tie.Need-enum-told-6
+enum-told-6 c = search needs
+
+enum-known-refusal-9 : tie.Need-enum-known-refusal-9
+enum-known-refusal-9 c = search needs
+
+returns : tie.Need-returns
+returns c = rw (c .before .refusal .given .1)
+
+returns-2 : tie.Need-returns-2
+returns-2 c = rw (c .before .refusal2 .given .1)
+
+returns-3 : tie.Need-returns-3
+returns-3 c = rw (c .before .refusal3 .given .1)
+
+returns-4 : tie.Need-returns-4
+returns-4 c = rw (c .before .refusal4 .given .1)
+
+returns-5 : tie.Need-returns-5
+returns-5 c = rw (c .before .refusal5 .given .1)
+
+returns-6 : tie.Need-returns-6
+returns-6 c = rw (c .before .refusal6 .given .1)
+
+returns-7 : tie.Need-returns-7
+returns-7 c = rw (c .before .refusal7 .given .1)
+
+returns-8 : tie.Need-returns-8
+returns-8 c = rw (c .before .refusal8 .given .1)
+
+returns-9 : tie.Need-returns-9
+returns-9 c = search needs
+
+returns-10 : tie.Need-returns-10
+returns-10 c = search needs
+
+returns-11 : tie.Need-returns-11
+returns-11 c = search needs
+
+returns-12 : tie.Need-returns-12
+returns-12 c = search needs
+
+returns-13 : tie.Need-returns-13
+returns-13 c = search needs
+
+returns-14 : tie.Need-returns-14
+returns-14 c = search needs
+
+returns-15 : tie.Need-returns-15
+returns-15 c = rw (c .before .refusal9 .given .1)
+
+pub carries-spec : {M : Type 1} → statement M
+carries-spec =
+    tie.close
+    (tie.spec
+    enum-known-refusal
+    enum-known-refusal-2
+    enum-known-refusal-3
+    enum-known-refusal-4
+    enum-known-refusal-5
+    enum-known-refusal-6
+    enum-known-refusal-7
+    enum-known-refusal-8
+    enum-told
+    enum-told-2
+    enum-told-3
+    enum-told-4
+    enum-told-5
+    enum-told-6
+    enum-known-refusal-9
+    returns
+    returns-2
+    returns-3
+    returns-4
+    returns-5
+    returns-6
+    returns-7
+    returns-8
+    returns-9
+    returns-10
+    returns-11
+    returns-12
+    returns-13
+    returns-14
+    returns-15)

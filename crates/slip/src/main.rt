@@ -3,6 +3,7 @@
 use libc::STDIN_FILENO;
 use libc::STDOUT_FILENO;
 use slip_text::tape_slip;
+use tape::DECIDING_BYTES;
 
 // `read_full` stops early where the input ends and where a read fails. One more read tells the two
 // apart: only at the end does it answer 0.
@@ -11,12 +12,12 @@ fn has_ended() -> bool {
     libc::read(STDIN_FILENO, &mut next) == 0
 }
 
-// 472 bytes decide every tape, however much follows: the commands that a tape can have, each of
-// them once, are 463 bytes before FF, and the longest command has 9.
+// So many bytes decide the slip of every tape, however much follows: that is the law `slip-decided`
+// of slip_text.
 fn main() {
-    let mut input = [0u8; 472];
+    let mut input = [0u8; DECIDING_BYTES];
     let read = io::read_full(STDIN_FILENO, &mut input);
-    if read < 472 && !has_ended() {
+    if read < DECIDING_BYTES && !has_ended() {
         os::fail(b"slip: standard input");
         return;
     }

@@ -1,4 +1,4 @@
-use mathlib.Core.Path.{_≡_, sym, _∙_, ap}
+use mathlib.Core.Path.{_≡_, refl, sym, _∙_, ap}
 use mathlib.Core.Bool.{false}
 use native.Mathlib.Omega.{arith}
 use borrow.Author.Needs.{needs}
@@ -53,13 +53,13 @@ returns-3 : tie.Need-returns-3
 unfolding shownOn
 returns-3 c =
     let p = c .before .before .before .before in
-    rw (eq-eqb _ _ (p .before .before .if1 .left), in-range p, sym (shown-is (c .before)) ∙ c .if3 .taken)
+    rw (eq-eqb _ _ (p .before .before .if1 .left), in-range p, sym (shown-is (c .before)) ∙ c .if3 .taken) refl
 
 returns-4 : tie.Need-returns-4
 unfolding shownOn
 returns-4 c =
     let p = c .before .before .before .before in
-    rw (eq-eqb _ _ (p .before .before .if1 .left), in-range p, sym (shown-is (c .before)) ∙ c .if3 .left)
+    rw (eq-eqb _ _ (p .before .before .if1 .left), in-range p, sym (shown-is (c .before)) ∙ c .if3 .left) refl
 
 pub show-on-spec : {M : Type 1} → statement M
 show-on-spec =

@@ -35,6 +35,7 @@ appended-then {s = s} {u = u} a b = record {
 pub appended-within : {t r : Text} {s : List ℕ} {m : ℕ} (n : ℕ) → m ≤ n → Appended t s m r → Appended t s n r
 appended-within n h a = record { holds = a .holds; longer = omega (arith, a .longer) }
 
+-- the first bytes of a text's buffer can be lent, as many as its length says
 pub lendable : (s : List ℕ) → Lendable (textOf s)
 lendable s = record {
   inside = rw (length-append s (replicate (160 - length s) 0)) (omega arith);

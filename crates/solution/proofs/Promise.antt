@@ -1,6 +1,6 @@
 -- The promise of a solution, from what the solve ensures of the slices that were lent to it.
-use mathlib.Core.Path.{_≡_, _∙_, ap}
 use Prim.Native.Nat.{ℕ, _≤_}
+use mathlib.Core.Path.{_≡_, _∙_, ap}
 use mathlib.Core.List.{List, _++_}
 use lib.ListN.{length, take, drop, length-replicate}
 use lib.Seq.{take-at}
@@ -16,7 +16,7 @@ use Rattle.solution.specs.declared.Solution.{Solution}
 use Rattle.solution.specs.Solution.{planNumbers, multiplierNumbers, solutionOf}
 use Rattle.solution.proofs.TapeSizes.{Room, take-zeros, drop-zeros}
 
--- what stands in front of an array of n zeros, once a call has left it in the first k
+-- the first k of n places, once a call has left its numbers there
 left-in-front : (k n : ℕ) (left : List ℤ) → k ≤ n → length left ≡ length (take k (zeros n)) → take k (left ++ drop k (zeros n)) ≡ left
 left-in-front k n left h l = take-at left (drop k (zeros n)) k (l ∙ ap length (take-zeros k n h) ∙ length-replicate k (pos 0))
 
@@ -33,6 +33,7 @@ module _ (s : List ℕ) where
   abbrev ending : Ending
   ending = solving s lentPlan lentMultipliers
 
+  -- the result: each array has what the call left, then the zeros that were not lent
   abbrev made : Solved → List ℤ → List ℤ → Solution
   made answer plan y =
       record { answer = answer; tape = t; plan = plan ++ drop (planNumbers t) (zeros 120); multipliers = y ++ drop (multiplierNumbers t) (zeros 72) }
@@ -43,8 +44,10 @@ module _ (s : List ℕ) where
       × Upheld answer t (take (planNumbers t) (made answer plan y .plan)) (take (multiplierNumbers t) (made answer plan y .multipliers))
   unfolding solutionOf
   solution-promise plan y r l k a p q u =
-      let plan-zeros = take-zeros (planNumbers t) 120 (r .plan) in
-      let multiplier-zeros = take-zeros (multiplierNumbers t) 72 (r .multipliers) in (
-        rw (drop-zeros (planNumbers t) 120 (r .plan), drop-zeros (multiplierNumbers t) 72 (r .multipliers), rw (plan-zeros, multiplier-zeros) at a, rw (plan-zeros, multiplier-zeros) at p, rw (plan-zeros, multiplier-zeros) at q),
+      let v = take-zeros (planNumbers t) 120 (r .plan) in
+      let w = take-zeros (multiplierNumbers t) 72 (r .multipliers) in
+      let behind-plan = drop-zeros (planNumbers t) 120 (r .plan) in
+      let behind-multipliers = drop-zeros (multiplierNumbers t) 72 (r .multipliers) in (
+        rw (behind-plan, behind-multipliers, rw (v, w) at a, rw (v, w) at p, rw (v, w) at q),
         rw (left-in-front (planNumbers t) 120 plan (r .plan) l, left-in-front (multiplierNumbers t) 72 y (r .multipliers) k) u,
       )

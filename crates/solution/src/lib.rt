@@ -8,8 +8,8 @@ use solver::solve;
 use tape::Tape;
 use tape::read;
 
-// What a solve answers and leaves. The first N(n + m) numbers of the plan and the first N × n
-// multipliers count; those behind them are 0.
+// A tape's numbers, with what its solve answers and leaves. The first N(n + m) numbers of the plan
+// and the first N × n multipliers count; those behind them are 0.
 pub struct Solution {
     pub answer: Solved,
     pub tape: Tape,

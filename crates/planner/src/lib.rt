@@ -5,6 +5,7 @@ ghost use mathlib.Core.Path.{_≡_};
 ghost use mathlib.Core.List.{[], _∷_, _++_};
 ghost use lib.ListN.{length, take};
 ghost use lib.IntN.{pos};
+ghost use Rattle.commands.specs.Ranges.{mostRounds};
 ghost use Rattle.tape.specs.Legal.{Legal};
 ghost use Rattle.tape.specs.Reading.{reading};
 ghost use Rattle.tape.specs.Refusals.{row, figure};
@@ -109,7 +110,7 @@ pub extern "C" fn fibergravel_solve(
 }
 
 fn code(why: Refusal) -> u64
-    requires { ⌜ figure (row why .carries) ≤ 10000 ⌝ }
+    requires { ⌜ figure (row why .carries) ≤ mostRounds ⌝ }
     ensures { λ r. ⌜ r ≡ codeOf why ⌝ }
 {
     (number(why) + 256 * figure(why)) as u64
@@ -148,7 +149,7 @@ fn numbers_of(t: Tape) -> [i64; 118]
 }
 
 fn proved_numbers(rounds: usize, gap: i64, first: Duties) -> [i64; 7]
-    requires { ⌜ rounds ≤ 10000 ⌝ }
+    requires { ⌜ rounds ≤ mostRounds ⌝ }
     ensures { λ r. ⌜ r ≡ pos 1 ∷ pos rounds ∷ gap ∷ first .u0 ∷ first .u1 ∷ first .u2 ∷ first .u3 ∷ [] ⌝ }
 {
     [

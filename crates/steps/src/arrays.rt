@@ -7,6 +7,7 @@ ghost use Rattle.integer.specs.Places.{at, Bounded, Stretch};
 ghost use Rattle.commands.specs.Ranges.{mostGain, mostRounds, mostMultiplier};
 ghost use Rattle.primal.specs.Padded.{termAt};
 ghost use Rattle.primal.specs.Ranges.{Tables, mostResidual};
+ghost use Rattle.dual.specs.Slopes.{mostSlope};
 ghost use Rattle.steps.specs.Steps.{ahead, minimiser, ascended};
 use crate::numbers::ahead_of;
 use crate::numbers::ascended_of;
@@ -41,7 +42,7 @@ pub fn minimisers<'a>(
     s: &'a [i64; 120],
     horizon: usize,
 ) -> [i64; 120]
-    requires { ⌜ (horizon ≤ 12) × Tables (now penalty) (now low) (now high) (now reference) × Bounded 1717986918400 (now s) ⌝ }
+    requires { ⌜ (horizon ≤ 12) × Tables (now penalty) (now low) (now high) (now reference) × Bounded mostSlope (now s) ⌝ }
     ensures { λ r. ⌜ Stretch 0 (10 * horizon)
         (λ p. minimiser (termAt (now (penalty .entry)) (now (low .entry)) (now (high .entry)) (now (reference .entry)) p) (at (now (s .entry)) p))
         (replicate 120 (pos 0)) r ⌝ }

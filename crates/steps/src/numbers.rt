@@ -6,6 +6,7 @@ ghost use Rattle.integer.specs.Order.{_≼_};
 ghost use Rattle.commands.specs.Ranges.{mostGain, mostRounds, mostMultiplier};
 ghost use Rattle.primal.specs.Padded.{termOf};
 ghost use Rattle.primal.specs.Ranges.{Ranged, mostResidual};
+ghost use Rattle.dual.specs.Slopes.{mostSlope};
 ghost use Rattle.steps.specs.Steps.{ahead, minimiser, ascended};
 use commands::range::LEAST_MULTIPLIER;
 use commands::range::MOST_MULTIPLIER;
@@ -27,7 +28,7 @@ pub fn ahead_of(k: i64, y: i64, previous: i64) -> i64
 // The minimiser of a plan number with slope s: r less s / 2P to the nearest unit, halves up, within
 // the limits.
 pub fn minimiser_of(p: i64, low: i64, high: i64, r: i64, s: i64) -> i64
-    requires { ⌜ Ranged (termOf p low high r) × (natAbs s ≤ 1717986918400) ⌝ }
+    requires { ⌜ Ranged (termOf p low high r) × (natAbs s ≤ mostSlope) ⌝ }
     ensures { λ q. ⌜ q ≡ minimiser (termOf p low high r) s ⌝ }
 {
     limit(quotient(2 * p * r - s + p, 2 * p), low, high)

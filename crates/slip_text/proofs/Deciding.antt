@@ -1,10 +1,9 @@
 -- The bytes that decide a tape decide its slip: the printing program need not read more.
-use mathlib.Core.Path.{_≡_, refl}
 use Prim.Native.Nat.{ℕ}
+use mathlib.Core.Path.{_≡_}
 use mathlib.Core.List.{List}
 use lib.ListN.{take}
-use Rattle.integer.specs.Sum.{sumℕ}
-use Rattle.commands.specs.Marks.{bytesAt, mostBytes, decidingBytes}
+use Rattle.commands.specs.Marks.{decidingBytes}
 use Rattle.tape.proofs.Deciding.{decides}
 use Rattle.solver.specs.Solving.{solving}
 use Rattle.solution.specs.Solution.{solutionOf}
@@ -13,8 +12,3 @@ use Rattle.slip_text.specs.Slip.{tapeSlip}
 pub slip-decided : (s : List ℕ) → tapeSlip (take decidingBytes s) ≡ tapeSlip s
 unfolding solutionOf solving
 slip-decided s = rw (decides s)
-
--- as many as the code's DECIDING_BYTES
-pub deciding-bytes : decidingBytes ≡ 472
-unfolding sumℕ bytesAt mostBytes decidingBytes
-deciding-bytes = refl

@@ -1,15 +1,14 @@
--- Filling arrays and middle parts of slices: place by place, then as a whole.
+-- Filling arrays: place by place, then stretch by stretch and step by step.
 use Prim.Native.Nat.{ℕ, zero, suc, _+_, _-_, _*_, _/_, _%_, _<_, _≤_}
 use mathlib.Core.Path.{_≡_, refl, sym, _∙_, ap, subst}
 use mathlib.Core.Logic.{_⊎_, inl, inr, ⊎-elim}
-use mathlib.Core.List.{List, _++_}
+use mathlib.Core.List.{List}
 use native.Mathlib.Omega.{arith}
 use native.Mathlib.Decide.{decLe}
 use native.Mathlib.Nat.{div-add-mod, mod-lt, div-lt-iff-lt-mul}
-use lib.ListN.{length, length-set, set, take, drop, replicate, List·getD-append, List·getD-eq-default}
-use lib.Seq.{getD-set-same, getD-set-other, getD-take, getD-drop, drop-at, length-take-le, ext-getD}
+use lib.ListN.{length, length-set, set, replicate, List·getD-eq-default}
+use lib.Seq.{getD-set-same, getD-set-other}
 use lib.IntN.{ℤ, pos, natAbs}
-use borrow.Rule.Slice.PartMut.{putMid, take-put, drop-put, same-len-mid, mid-len}
 use Rattle.integer.specs.Places.{at, Bounded, Stretch, Steps}
 
 pub lt-or-le : (a b : ℕ) → (a < b) ⊎ (b ≤ a)
@@ -48,26 +47,6 @@ stretch-store o w f old new v room s e = record { inside = λ j h. in-j j h (lt-
     out-p p (inl h) = other p (λ q. omega arith) ∙ s .outside p (inl h)
     out-p p (inr h) = other p (λ q. omega arith) ∙ s .outside p (inr (omega arith))
 
--- a part that was lent as `&mut xs[a..e]` and came back as zs
-pub stretch-part : (a e : ℕ) (xs zs : List ℤ) → a ≤ e → e ≤ length xs → length zs ≡ e - a →
-    Stretch a (e - a) (at zs) xs (putMid a (e - a) xs zs)
-stretch-part a e xs zs h l n = record { inside = in-j; outside = out-p; same = same-len-mid a (e - a) xs zs (n ∙ sym (mid-len a e xs l)) }
-  where
-    in-j : (j : ℕ) → j < e - a → at (putMid a (e - a) xs zs) (a + j) ≡ at zs j
-    in-j j k =
-        sym (getD-drop a (putMid a (e - a) xs zs) j (pos 0))
-        ∙ ap (λ (l : List ℤ). at l j) (drop-at (take a xs) (zs ++ drop (e - a) (drop a xs)) a (length-take-le a xs (omega arith)))
-        ∙ List·getD-append zs (drop (e - a) (drop a xs)) (pos 0) j (omega arith)
-
-    out-p : (p : ℕ) → (p < a) ⊎ (a + (e - a) ≤ p) → at (putMid a (e - a) xs zs) p ≡ at xs p
-    out-p p (inl k) =
-        sym (getD-take a (putMid a (e - a) xs zs) p (pos 0) k) ∙ ap (λ (l : List ℤ). at l p) (take-put a (e - a) xs zs (omega arith))
-        ∙ getD-take a xs p (pos 0) k
-    out-p p (inr k) =
-        let q : p ≡ e + (p - e) = omega arith in
-        ap (at (putMid a (e - a) xs zs)) q ∙ sym (getD-drop e (putMid a (e - a) xs zs) (p - e) (pos 0))
-        ∙ ap (λ (l : List ℤ). at l (p - e)) (drop-put a e xs zs h l n) ∙ getD-drop e xs (p - e) (pos 0) ∙ ap (at xs) (sym q)
-
 -- a stretch, and one right after it
 pub stretch-join : (o w v : ℕ) (f g h : ℕ → ℤ) (old mid new : List ℤ) → Stretch o w f old mid → Stretch (o + w) v g mid new →
     ((j : ℕ) → j < w → h j ≡ f j) → ((j : ℕ) → j < v → h (w + j) ≡ g j) → Stretch o (w + v) h old new
@@ -94,13 +73,6 @@ module _ {w : ℕ} {f : ℕ → ℤ} {old new : List ℤ} (s : Stretch 0 w f old
 
   pub fill-at : (p : ℕ) → p < w → at new p ≡ f p
   fill-at p h = let z : p ≡ 0 + p = omega arith in ap (at new) z ∙ s .inside p h
-
--- a stretch over every place is the whole list
-pub stretch-whole : (f : ℕ → ℤ) (old new list : List ℤ) → Stretch 0 (length old) f old new → length list ≡ length old →
-    ((j : ℕ) → j < length old → f j ≡ at list j) → new ≡ list
-stretch-whole f old new list s n h =
-    ext-getD (pos 0) new list (s .same ∙ sym n)
-    (λ j l. let k : j < length old = omega (arith, s .same) in fill-at s j k ∙ h j k)
 
 -- ---- Steps of d places
 

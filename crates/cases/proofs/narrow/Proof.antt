@@ -1,5 +1,4 @@
 use Rattle.integer.proofs.Sizes.{fitting, fit}
-use Prim.Native.Nat.{_-_}
 use native.Mathlib.Omega.{arith}
 use borrow.Author.Needs.{needs}
 use Rattle.cases.proofs.narrow.Statement.{statement}

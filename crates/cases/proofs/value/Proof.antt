@@ -4,7 +4,6 @@ use mir.Val.{toZ}
 use mir.Facts.{toZ-pos}
 use Rattle.integer.proofs.Parts.{minus}
 use Rattle.integer.proofs.Sizes.{fitting}
-use Prim.Native.Nat.{_-_}
 use mathlib.Core.Path.{_≡_}
 use native.Mathlib.Omega.{arith}
 use borrow.Author.Needs.{needs}

@@ -1,6 +1,5 @@
 -- Document 01, "Firing slip": the lines that the printing program writes.
-use Prim.Native.Nat.{ℕ, _-_, _≤_}
-use mathlib.Core.Path.{_≡_}
+use Prim.Native.Nat.{ℕ, _-_}
 use mathlib.Core.List.{List, [], _∷_, _++_}
 use lib.ListN.{length, take, replicate}
 use lib.IntN.{ℤ}
@@ -60,10 +59,5 @@ abbrev pub tapeSlip : List ℕ → List ℕ
 tapeSlip s = slip (solutionOf s .answer) (solutionOf s .tape .m)
 
 -- A text in its buffer: the bytes, then zeros.
-abbrev pub textOf : List ℕ → Text
+unfoldable pub textOf : List ℕ → Text
 textOf s = record { bytes = s ++ replicate (160 - length s) 0; length = length s }
-
--- What lending `&bytes[..length]` asks. It holds of every `textOf s`; said apart, it spares the caller a law of lists.
-pub record Lendable (t : Text) : Type 0 where
-  pub inside : t .length ≤ length (t .bytes)
-  pub counted : t .length ≡ length (take (t .length) (t .bytes))

@@ -4,7 +4,7 @@ mod text;
 
 pub use text::Text;
 ghost use mathlib.Core.Path.{_≡_};
-ghost use Rattle.slip_text.specs.Slip.{slip, tapeSlip, textOf, Lendable};
+ghost use Rattle.slip_text.specs.Slip.{slip, tapeSlip, textOf};
 use crate::lines::kind_and_rounds;
 use crate::lines::proved;
 use crate::lines::refused;
@@ -14,7 +14,6 @@ use solver::Solved;
 // The slip of a tape: what the printing program writes.
 pub fn tape_slip(tape: &[u8]) -> Text
     ensures { λ r. ⌜ r ≡ textOf (tapeSlip (now (tape .entry))) ⌝ }
-    ensures { λ r. ⌜ Lendable r ⌝ }
 {
     let solution = solve_tape(tape);
     let answer = solution.answer;

@@ -61,5 +61,7 @@ pub fn square_quotient(s: i64, d: i64) -> i64
 {
     let a = quotient(s, d);
     let b = s - a * d;
-    a * (s + b) + b * b / d
+    let mut total = a * (s + b);
+    total += b * b / d;
+    total
 }

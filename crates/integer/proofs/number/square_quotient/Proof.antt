@@ -1,6 +1,6 @@
 -- Each step is read back as the number that it stands for, from the inside out; then its size shows that it fits.
 use Prim.Native.Nat.{_<_}
-use mathlib.Core.Path.{_≡_, _∙_}
+use mathlib.Core.Path.{_≡_, _∙_, ap}
 use native.Mathlib.Nat.{le-trans}
 use native.Mathlib.Omega.{arith}
 use lib.IntN.{ℤ, _+ℤ_, _*ℤ_}
@@ -78,20 +78,20 @@ mul-b c = simp (whole-is c, d-is c) (product-fits c)
 sub-b : tie.Need-sub-b
 sub-b c = simp (whole-is c, s-is c, d-is c, toZ-ofZ (product-fits c)) (rest-fits c)
 
-add-result : tie.Need-add-result
-add-result c = simp (whole-is c, s-is c, d-is c, toZ-ofZ (product-fits c), toZ-ofZ (rest-fits c)) (both-fits c)
+add-total : tie.Need-add-total
+add-total c = simp (whole-is c, s-is c, d-is c, toZ-ofZ (product-fits c), toZ-ofZ (rest-fits c)) (both-fits c)
 
-mul-result : tie.Need-mul-result
-mul-result c = simp (whole-is c, s-is c, d-is c, toZ-ofZ (product-fits c), toZ-ofZ (rest-fits c), toZ-ofZ (both-fits c)) (front-fits c)
+mul-total : tie.Need-mul-total
+mul-total c = simp (whole-is c, s-is c, d-is c, toZ-ofZ (product-fits c), toZ-ofZ (rest-fits c), toZ-ofZ (both-fits c)) (front-fits c)
 
-mul-result-2 : tie.Need-mul-result-2
-mul-result-2 c = simp (whole-is c, s-is c, d-is c, toZ-ofZ (product-fits c), toZ-ofZ (rest-fits c)) (square-fits c)
+mul-total-2 : tie.Need-mul-total-2
+mul-total-2 c = simp (whole-is c, s-is c, d-is c, toZ-ofZ (product-fits c), toZ-ofZ (rest-fits c)) (square-fits c)
 
-div-result : tie.Need-div-result
-div-result c = simp (whole-is c, s-is c, d-is c, toZ-ofZ (product-fits c), toZ-ofZ (rest-fits c), toZ-ofZ (square-fits c)) (division c)
+div-total : tie.Need-div-total
+div-total c = simp (whole-is c, s-is c, d-is c, toZ-ofZ (product-fits c), toZ-ofZ (rest-fits c), toZ-ofZ (square-fits c)) (division c)
 
-add-result-2 : tie.Need-add-result-2
-add-result-2 c =
+add-total-2 : tie.Need-add-total-2
+add-total-2 c =
     simp (
       whole-is c,
       s-is c,
@@ -119,8 +119,8 @@ returns c =
       toZ-ofZ (division c .1),
       toZ-ofZ (total-fits c),
     )
-    (rw (last-is c) (square-quotient (s c) (d c) (divisor (s c) (d c) (sized c))))
+    (ap (λ (z : ℤ). (s c ÷ d c) *ℤ (s c +ℤ rest (s c) (d c)) +ℤ z) (last-is c) ∙ square-quotient (s c) (d c) (divisor (s c) (d c) (sized c)))
 
 pub square-quotient-spec : {M : Type 1} → statement M
 square-quotient-spec =
-    tie.close (tie.spec quotient-requires mul-b sub-b add-result mul-result mul-result-2 div-result add-result-2 returns)
+    tie.close (tie.spec quotient-requires mul-b sub-b add-total mul-total mul-total-2 div-total add-total-2 returns)

@@ -25,7 +25,8 @@ enum { PAINT = 0xa5 };
 /* What the calls are lent. One byte more than any accepted tape has shows that a file is none. */
 static uint8_t tape[FIBERGRAVEL_MOST_TAPE + 1];
 static int32_t plan[FIBERGRAVEL_MOST_PLAN], multipliers[FIBERGRAVEL_MOST_MULTIPLIERS];
-static int64_t numbers[FIBERGRAVEL_READ_LENGTH], gap[FIBERGRAVEL_JUDGE_PLAN_LENGTH], answer[FIBERGRAVEL_SOLVE_LENGTH];
+static int64_t numbers[FIBERGRAVEL_READ_LENGTH], references[FIBERGRAVEL_READ_REFERENCES_LENGTH];
+static int64_t gap[FIBERGRAVEL_JUDGE_PLAN_LENGTH], answer[FIBERGRAVEL_SOLVE_LENGTH];
 static size_t tape_len, plan_len, multipliers_len;
 
 static void *nothing(void *unused)
@@ -36,6 +37,12 @@ static void *nothing(void *unused)
 static void *read_tape(void *unused)
 {
     fibergravel_read(tape, tape_len, numbers);
+    return unused;
+}
+
+static void *read_references(void *unused)
+{
+    fibergravel_read_references(tape, tape_len, references);
     return unused;
 }
 
@@ -63,6 +70,7 @@ static const struct {
 } threads[] = {
     { "nothing", nothing },
     { "read", read_tape },
+    { "read_references", read_references },
     { "solve", solve },
     { "judge_plan", judge_plan },
     { "judge_multipliers", judge_multipliers },

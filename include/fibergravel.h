@@ -44,7 +44,7 @@ extern "C" {
 
 /* The version of the calls, one number that compares: 100 times the first part plus the second. */
 #define FIBERGRAVEL_VERSION_MAJOR 1
-#define FIBERGRAVEL_VERSION_MINOR 0
+#define FIBERGRAVEL_VERSION_MINOR 1
 #define FIBERGRAVEL_VERSION (100 * FIBERGRAVEL_VERSION_MAJOR + FIBERGRAVEL_VERSION_MINOR)
 
 /* The number of a refusal, and what it carries. */
@@ -57,10 +57,10 @@ enum {
     FIBERGRAVEL_MOST_INPUTS = 4,
     FIBERGRAVEL_MOST_STEPS = 12,
     FIBERGRAVEL_MOST_ROUNDS = 10000,
-    FIBERGRAVEL_MOST_TAPE = 464,        /* bytes of an accepted tape */
+    FIBERGRAVEL_MOST_TAPE = 1064,       /* bytes of an accepted tape */
     FIBERGRAVEL_MOST_PLAN = 120,        /* numbers of a plan */
     FIBERGRAVEL_MOST_MULTIPLIERS = 72,  /* numbers of multipliers */
-    FIBERGRAVEL_STACK = 49152           /* bytes of a stack that has room for a call */
+    FIBERGRAVEL_STACK = 65536           /* bytes of a stack that has room for a call */
 };
 
 /* The refusals. */
@@ -71,8 +71,8 @@ enum {
     FIBERGRAVEL_MISPLACED = 3,      /* the first command is not 10, or there is a second 10 */
     FIBERGRAVEL_NO_SUCH_PLACE = 4,  /* an index outside the size */
     FIBERGRAVEL_OUT_OF_RANGE = 5,   /* an operand outside its range, or lo > hi */
-    FIBERGRAVEL_TWICE = 6,          /* the same place, or command 50, given again */
-    FIBERGRAVEL_ABSENT = 7,         /* at FF, something required was not given */
+    FIBERGRAVEL_TWICE = 6,          /* the same place, a column's step included, or command 50, given again */
+    FIBERGRAVEL_ABSENT = 7,         /* at FF, something required was not given, or a curve lacks a step */
     FIBERGRAVEL_OVERRUN = 8,        /* bytes after FF: the offset after FF */
 
     /* These carry 0. */
@@ -97,13 +97,20 @@ enum {
     FIBERGRAVEL_DRIFT = 63,         /* 6: w(i) */
     FIBERGRAVEL_LOW = 69,           /* 10: lo of each column, the n states and then the m inputs */
     FIBERGRAVEL_HIGH = 79,          /* 10: hi */
-    FIBERGRAVEL_REFERENCE = 89,     /* 10: r */
+    FIBERGRAVEL_REFERENCE = 89,     /* 10: r of command 30, unused where the column has a curve */
     FIBERGRAVEL_WEIGHT = 99,        /* 10: h */
     FIBERGRAVEL_START = 109,        /* 6: x(0) */
     FIBERGRAVEL_GAIN = 115,         /* g */
     FIBERGRAVEL_ROUNDS = 116,       /* R */
     FIBERGRAVEL_WANTED = 117,       /* T */
     FIBERGRAVEL_READ_LENGTH = 118
+};
+
+/* Places of fibergravel_read_references's out, and how many numbers it has. */
+enum {
+    FIBERGRAVEL_REFERENCES = 0,         /* 120: the reference of column c in step k at 12 * c + k */
+    FIBERGRAVEL_REFERENCE_MARKS = 120,  /* 120: 1 where it is given, else 0, in the same order */
+    FIBERGRAVEL_READ_REFERENCES_LENGTH = 240
 };
 
 /* How many numbers fibergravel_judge_plan's out has. */
@@ -122,10 +129,19 @@ enum {
 };
 
 /*
- * Reads a tape. out holds each number of the tape, 0 where the tape gives none and beyond its sizes.
- * Refusals 1 to 8.
+ * Reads a tape. out holds each number of the tape but those of its curves, 0 where the tape gives none
+ * and beyond its sizes. Refusals 1 to 8.
  */
 uint64_t fibergravel_read(const uint8_t *tape, size_t tape_len, int64_t out[FIBERGRAVEL_READ_LENGTH]);
+
+/*
+ * Reads a tape's curves. A column has one where command 31 gives its references, one for each of the N
+ * steps; where it has none, r is its reference in all of them. Step k covers u(k) and x(k + 1). out holds
+ * the references of command 31 and their marks, 0 where none is given and beyond the sizes.
+ * Refusals 1 to 8, as fibergravel_read has them.
+ */
+uint64_t fibergravel_read_references(const uint8_t *tape, size_t tape_len,
+                                     int64_t out[FIBERGRAVEL_READ_REFERENCES_LENGTH]);
 
 /*
  * Judges a plan with multipliers. out holds the gap, at most T: the plan follows the tape, and no plan

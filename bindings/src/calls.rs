@@ -1,4 +1,4 @@
-//! The four calls with the numbers that they answer, one to one with C's.
+//! The five calls with the numbers that they answer, one to one with C's.
 //!
 //! Each answers 0 where it has a result, which is then in `out`; else the refusal's number +
 //! 256 × what it carries, and then nothing that was lent has changed, `out` included.
@@ -8,6 +8,7 @@
 mod foreign {
     extern "C" {
         pub fn fibergravel_read(tape: *const u8, tape_len: usize, out: *mut i64) -> u64;
+        pub fn fibergravel_read_references(tape: *const u8, tape_len: usize, out: *mut i64) -> u64;
         pub fn fibergravel_judge_plan(
             tape: *const u8,
             tape_len: usize,
@@ -38,6 +39,9 @@ mod foreign {
 /// How many numbers [`read`] writes.
 pub const READ_LENGTH: usize = 118;
 
+/// How many numbers [`read_references`] writes.
+pub const READ_REFERENCES_LENGTH: usize = 240;
+
 /// How many numbers [`judge_plan`] writes.
 pub const JUDGE_PLAN_LENGTH: usize = 1;
 
@@ -45,12 +49,20 @@ pub const JUDGE_PLAN_LENGTH: usize = 1;
 pub const SOLVE_LENGTH: usize = 7;
 
 /// Reads a tape. `out`: n, m, N, A by rows of 6 (36), B by rows of 4 (24), w (6), lo (10), hi
-/// (10), r (10), h (10), x(0) (6), g, R, T; columns are states, then inputs, and places beyond
-/// the tape's sizes are 0.
+/// (10), r of command 30 (10), h (10), x(0) (6), g, R, T; columns are states, then inputs, and
+/// places beyond the tape's sizes are 0.
 pub fn read(tape: &[u8], out: &mut [i64; READ_LENGTH]) -> u64 {
     // SAFETY: the tape's pointer and length are one slice's, never null, and `out` has the places
     // that the call writes. It keeps no pointer.
     unsafe { foreign::fibergravel_read(tape.as_ptr(), tape.len(), out.as_mut_ptr()) }
+}
+
+/// Reads a tape's references of command 31. `out`: the references by columns of 12 steps (120), 0
+/// where none is given, and their marks in the same order (120), 1 where one is given, else 0.
+pub fn read_references(tape: &[u8], out: &mut [i64; READ_REFERENCES_LENGTH]) -> u64 {
+    // SAFETY: the tape's pointer and length are one slice's, never null, and `out` has the places
+    // that the call writes. It keeps no pointer.
+    unsafe { foreign::fibergravel_read_references(tape.as_ptr(), tape.len(), out.as_mut_ptr()) }
 }
 
 /// Judges a plan with multipliers. `out`: the gap.

@@ -1,6 +1,6 @@
 //! The proved sinter furnace planner for Rust programs.
 //!
-//! This crate links `libplanner.a`, which `rt staticlib planner` writes, and wraps its four
+//! This crate links `libplanner.a`, which `rt staticlib planner` writes, and wraps its five
 //! calls. Every call takes the tape's bytes and may be lent anything: what document 01 refuses
 //! comes back as a [`Refusal`], and then no lent number has changed. The crate needs `core` only.
 //! `docs/TAPE.md` of the repository has the tape's format, `include/fibergravel.h` what a call
@@ -60,14 +60,15 @@ pub const MOST_STEPS: usize = 12;
 /// The most columns: states, then inputs.
 pub const MOST_COLUMNS: usize = MOST_STATES + MOST_INPUTS;
 /// The most bytes of an accepted tape.
-pub const MOST_TAPE: usize = 464;
+pub const MOST_TAPE: usize = 1064;
 /// The most numbers of a plan.
 pub const MOST_PLAN: usize = MOST_STEPS * MOST_COLUMNS;
 /// The most numbers of multipliers.
 pub const MOST_MULTIPLIERS: usize = MOST_STEPS * MOST_STATES;
 
-/// The sizes and each number of an accepted tape, absent ones as 0. Places beyond the sizes are
-/// 0. A column is a state, 0 to n−1, or an input, n to n+m−1.
+/// The sizes and each number of an accepted tape, absent ones as 0; its curves are in
+/// [`References`]. Places beyond the sizes are 0. A column is a state, 0 to n−1, or an input, n to
+/// n+m−1.
 #[derive(Clone, Copy, Debug, PartialEq, Eq)]
 #[non_exhaustive]
 pub struct Tape {
@@ -87,7 +88,7 @@ pub struct Tape {
     pub lo: [i64; MOST_COLUMNS],
     /// The upper limit of each column.
     pub hi: [i64; MOST_COLUMNS],
-    /// The reference r of each column.
+    /// The reference r of each column's command 30. It is unused where the column has a curve.
     pub reference: [i64; MOST_COLUMNS],
     /// The weight h of each column.
     pub weight: [i64; MOST_COLUMNS],
@@ -133,6 +134,37 @@ impl Tape {
             rounds: rest.next().unwrap_or(0),
             wanted_gap: rest.next().unwrap_or(0),
         }
+    }
+}
+
+/// The curves of an accepted tape: the references that command 31 gives. A column has one for each
+/// of the tape's N steps or none at all; where it has none, [`Tape::reference`] holds in all steps.
+#[derive(Clone, Copy, Debug, PartialEq, Eq)]
+#[non_exhaustive]
+pub struct References {
+    /// The reference of column c in step k as `given[c][k]`, which is that of x(k+1) or u(k).
+    /// There is none in places beyond the sizes.
+    pub given: [[Option<i64>; MOST_STEPS]; MOST_COLUMNS],
+}
+
+impl References {
+    /// The references and marks in the order of [`calls::read_references`].
+    fn from_numbers(numbers: &[i64; calls::READ_REFERENCES_LENGTH]) -> References {
+        let mut rest = numbers.iter().copied();
+        let references: [[i64; MOST_STEPS]; MOST_COLUMNS] = from_fn(|_| next(&mut rest));
+        let marks: [[i64; MOST_STEPS]; MOST_COLUMNS] = from_fn(|_| next(&mut rest));
+        References {
+            given: from_fn(|c| from_fn(|k| given(references[c][k], marks[c][k]))),
+        }
+    }
+}
+
+/// The number of a place, where its mark says that it was given. One that was not is 0.
+fn given(number: i64, mark: i64) -> Option<i64> {
+    match (mark, number) {
+        (1, _) => Some(number),
+        (0, 0) => None,
+        _ => wrong_library(),
     }
 }
 
@@ -201,7 +233,7 @@ fn wrong_library() -> ! {
     panic!("the linked library is not the planner that this crate wraps")
 }
 
-/// Reads a tape: its sizes and each of its numbers.
+/// Reads a tape: its sizes and each of its numbers but the curves, which [`read_references`] gives.
 ///
 /// # Errors
 ///
@@ -210,6 +242,38 @@ pub fn read(tape: &[u8]) -> Result<Tape, Refusal> {
     let mut out = [0; calls::READ_LENGTH];
     accepted(calls::read(tape, &mut out))?;
     Ok(Tape::from_numbers(&out))
+}
+
+/// Reads a tape's curves.
+///
+/// ```
+/// use fibergravel::{read, read_references};
+///
+/// let tape = [
+///     0x10, 1, 1, 2, // size
+///     0x30, 0, 0x18, 0xFC, 0xE8, 0x03, 0x00, 0x00, 1, // the state: -1000 to 1000, r 0
+///     0x31, 0, 0, 0x69, 0x00, // its reference in step 0, 105
+///     0x31, 0, 1, 0x6E, 0x00, // and in step 1, 110
+///     0x30, 1, 0x00, 0x00, 0x28, 0x00, 0x05, 0x00, 1, // the input: 0 to 40, r 5
+///     0x40, 0, 0x64, 0x00, // x(0) = 100
+///     0x50, 0x19, 0x00, 0x05, 0x00, 0x40, 0x9C, 0x00, 0x00, // g 25, R 5, T 40000
+///     0xFF,
+/// ];
+/// let [state, input, ..] = read_references(&tape)?.given;
+/// assert_eq!(state[..3], [Some(105), Some(110), None]);
+/// // The input has no curve: r is its reference in both steps.
+/// let r = read(&tape)?.reference[1];
+/// assert_eq!([input[0].unwrap_or(r), input[1].unwrap_or(r)], [5, 5]);
+/// # Ok::<(), fibergravel::Refusal>(())
+/// ```
+///
+/// # Errors
+///
+/// Refusals 1 to 8, as [`read`] gives them.
+pub fn read_references(tape: &[u8]) -> Result<References, Refusal> {
+    let mut out = [0; calls::READ_REFERENCES_LENGTH];
+    accepted(calls::read_references(tape, &mut out))?;
+    Ok(References::from_numbers(&out))
 }
 
 /// Judges a plan with multipliers: the gap, which is at most T. No plan that follows the tape
@@ -281,6 +345,21 @@ mod tests {
         assert_eq!((tape.gain, tape.rounds, tape.wanted_gap), (116, 117, 118));
     }
 
+    /// Every place given, with 1, 2 and so on as references.
+    fn all_given() -> [i64; calls::READ_REFERENCES_LENGTH] {
+        from_fn(|place| if place < 120 { place as i64 + 1 } else { 1 })
+    }
+
+    #[test]
+    fn every_reference_has_its_place() {
+        let mut numbers = all_given();
+        (numbers[13], numbers[120 + 13]) = (0, 0);
+        let References { given } = References::from_numbers(&numbers);
+        assert_eq!((given[0][0], given[0][11]), (Some(1), Some(12)));
+        assert_eq!((given[1][0], given[1][1]), (Some(13), None));
+        assert_eq!((given[9][0], given[9][11]), (Some(109), Some(120)));
+    }
+
     #[test]
     fn what_no_planner_answers_panics() {
         for answer in [16, 9 + 256, u64::MAX] {
@@ -290,6 +369,11 @@ mod tests {
             let mut numbers = counted();
             numbers[place] = number;
             assert!(catch_unwind(|| Tape::from_numbers(&numbers)).is_err());
+        }
+        for (place, number) in [(120, 2), (239, -1), (120 + 5, 0)] {
+            let mut numbers = all_given();
+            numbers[place] = number;
+            assert!(catch_unwind(|| References::from_numbers(&numbers)).is_err());
         }
         for numbers in [[0; 7], [3; 7], [1, 1, 1, 1 << 40, 0, 0, 0]] {
             assert!(catch_unwind(|| Solved::from_numbers(numbers)).is_err());
@@ -302,6 +386,7 @@ mod tests {
         let unknown = Refusal::Unknown { offset: 0 };
         let misplaced = Refusal::Misplaced { offset: 0 };
         assert_eq!(read(&[]), Err(cut));
+        assert_eq!(read_references(&[]), Err(cut));
         assert_eq!(judge_plan(&[0xff], &[], &[]), Err(misplaced));
         assert_eq!(judge_multipliers(&[0], &[1]), Err(unknown));
         assert_eq!(solve(&[0x10], &mut [], &mut [7]), Err(cut));

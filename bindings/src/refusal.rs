@@ -33,12 +33,12 @@ pub enum Refusal {
         /// Of the command byte.
         offset: u64,
     },
-    /// 6: the same place, or 50, given again.
+    /// 6: the same place, a column's step included, or 50, given again.
     Twice {
         /// Of the command byte.
         offset: u64,
     },
-    /// 7: at FF, something required was not given.
+    /// 7: at FF, something required was not given, or a curve lacks a step.
     Absent {
         /// Of FF.
         offset: u64,
@@ -153,7 +153,7 @@ mod tests {
     #[test]
     fn each_number_gives_its_refusal() {
         for number in 1..=15 {
-            let carried = if (9..=14).contains(&number) { 0 } else { 463 };
+            let carried = if (9..=14).contains(&number) { 0 } else { 1063 };
             let refusal = Refusal::from_answer(number + 256 * carried).expect("in the table");
             assert_eq!(refusal.number(), number);
             assert_eq!(refusal.carried().unwrap_or(0), carried);

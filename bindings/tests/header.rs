@@ -22,12 +22,21 @@ fn sizes_and_lengths() {
         ("MOST_PLAN", fibergravel::MOST_PLAN),
         ("MOST_MULTIPLIERS", fibergravel::MOST_MULTIPLIERS),
         ("READ_LENGTH", calls::READ_LENGTH),
+        ("READ_REFERENCES_LENGTH", calls::READ_REFERENCES_LENGTH),
         ("JUDGE_PLAN_LENGTH", calls::JUDGE_PLAN_LENGTH),
         ("SOLVE_LENGTH", calls::SOLVE_LENGTH),
     ];
     for (name, size) in sizes {
         assert_eq!(number(name), Some(size as u64), "{name}");
     }
+}
+
+#[test]
+fn places_of_the_references() {
+    let count = fibergravel::MOST_COLUMNS * fibergravel::MOST_STEPS;
+    assert_eq!(number("REFERENCES"), Some(0));
+    assert_eq!(number("REFERENCE_MARKS"), Some(count as u64));
+    assert_eq!(calls::READ_REFERENCES_LENGTH, 2 * count);
 }
 
 #[test]

@@ -2,7 +2,7 @@
 //! and by the second program.
 
 use fibergravel::calls;
-use reference::cases::read_numbers;
+use reference::cases::{read_numbers, reference_numbers};
 use reference::generate::Lent;
 use reference::{
     judge_multipliers, judge_plan, read, solve, Furnace, Refusal, Shown, Solved, Whole,
@@ -10,11 +10,13 @@ use reference::{
 
 use crate::guard::{marks, Beside, Guarded, GUARD};
 
-/// The four calls.
+/// The five calls.
 #[derive(Clone, Copy, Debug, PartialEq, Eq)]
 pub enum Call {
     /// Reads a tape.
     Read,
+    /// Reads a tape's references by step.
+    ReadReferences,
     /// Judges a plan with multipliers.
     JudgePlan,
     /// Judges multipliers for impossibility.
@@ -24,9 +26,10 @@ pub enum Call {
 }
 
 impl Call {
-    /// The four.
-    pub const ALL: [Call; 4] = [
+    /// The five.
+    pub const ALL: [Call; 5] = [
         Call::Read,
+        Call::ReadReferences,
         Call::JudgePlan,
         Call::JudgeMultipliers,
         Call::Solve,
@@ -36,6 +39,7 @@ impl Call {
     fn out_length(self) -> usize {
         match self {
             Call::Read => calls::READ_LENGTH,
+            Call::ReadReferences => calls::READ_REFERENCES_LENGTH,
             Call::JudgePlan => calls::JUDGE_PLAN_LENGTH,
             Call::JudgeMultipliers => 0,
             Call::Solve => calls::SOLVE_LENGTH,
@@ -43,7 +47,8 @@ impl Call {
     }
 }
 
-/// What a call is lent. [`Call::Read`] takes the tape alone, [`Call::JudgeMultipliers`] no plan.
+/// What a call is lent. [`Call::Read`] and [`Call::ReadReferences`] take the tape alone,
+/// [`Call::JudgeMultipliers`] no plan.
 #[derive(Clone, Copy, Debug)]
 pub struct Lending<'a> {
     /// Where it comes from, in a few words.
@@ -109,6 +114,7 @@ pub fn by_planner(call: Call, lending: &Lending, beside: Beside) -> Left {
     let mut multipliers = Guarded::marked(lending.multipliers, beside);
     let (answer, out) = match call {
         Call::Read => with_out(beside, |out| calls::read(tape.lent(), out)),
+        Call::ReadReferences => with_out(beside, |out| calls::read_references(tape.lent(), out)),
         Call::JudgePlan => with_out(beside, |out| {
             calls::judge_plan(tape.lent(), plan.lent(), multipliers.lent(), out)
         }),
@@ -146,6 +152,8 @@ fn with_out<const COUNT: usize>(
 pub enum Answer {
     /// Of [`Call::Read`].
     Read(Result<Furnace, Refusal>),
+    /// Of [`Call::ReadReferences`]: the furnace with the curves.
+    References(Result<Furnace, Refusal>),
     /// Of [`Call::JudgePlan`].
     Gap(Result<Whole, Refusal>),
     /// Of [`Call::JudgeMultipliers`].
@@ -161,6 +169,7 @@ pub fn by_reference(call: Call, lending: &Lending) -> (Answer, Left) {
     let mut multipliers = lending.multipliers.to_vec();
     let answer = match call {
         Call::Read => Answer::Read(read(tape)),
+        Call::ReadReferences => Answer::References(read(tape)),
         Call::JudgePlan => Answer::Gap(judge_plan(tape, &plan, &multipliers)),
         Call::JudgeMultipliers => Answer::Shown(judge_multipliers(tape, &multipliers)),
         Call::Solve => Answer::Solved(solve(tape, &mut plan, &mut multipliers)),
@@ -189,7 +198,11 @@ fn numbers(answer: &Answer) -> Result<Vec<i64>, Refusal> {
     match answer {
         Answer::Read(read) => {
             let furnace = read.as_ref().map_err(|refusal| *refusal)?;
-            Ok(read_numbers(furnace).into_iter().map(narrow).collect())
+            Ok(narrow_all(read_numbers(furnace)))
+        }
+        Answer::References(read) => {
+            let furnace = read.as_ref().map_err(|refusal| *refusal)?;
+            Ok(narrow_all(reference_numbers(furnace)))
         }
         Answer::Gap(gap) => Ok(vec![narrow((*gap)?)]),
         Answer::Shown(shown) => {
@@ -210,4 +223,9 @@ fn numbers(answer: &Answer) -> Result<Vec<i64>, Refusal> {
 /// Document 01: no sum passes 5 × 10^18.
 pub fn narrow(number: Whole) -> i64 {
     i64::try_from(number).expect("a number of an answer fits 64 bits")
+}
+
+/// Each of the numbers by [`narrow`].
+pub fn narrow_all(numbers: Vec<Whole>) -> Vec<i64> {
+    numbers.into_iter().map(narrow).collect()
 }

@@ -9,7 +9,7 @@ use reference::model::Furnace;
 use reference::refusal::Refusal;
 
 use crate::calls::{Answer, Call, Lending};
-use crate::comparison::{Comparison, CUT, JUDGED};
+use crate::comparison::{Comparison, ALL_CURVES, CUT, JUDGED, NO_CURVE, REFERENCES, SOME_CURVES};
 use crate::guard::GUARD;
 use crate::tune;
 
@@ -28,6 +28,8 @@ impl Comparison {
             unreachable!("reading gives its own answer");
         };
         self.counts.add_read(&furnace);
+        self.counts.add_steps(tape, &furnace);
+        self.read_references(&lending);
         for lent in &case.judged {
             self.judge(tape, lent);
         }
@@ -45,6 +47,13 @@ impl Comparison {
         }
         if seed.is_multiple_of(SLIP_ONE_IN) {
             self.print(&[tape]);
+        }
+    }
+
+    /// Reads a tape's references by step.
+    fn read_references(&mut self, lending: &Lending) {
+        if let (Answer::References(furnace), _) = self.call(Call::ReadReferences, lending) {
+            self.counts.add(REFERENCES, &references_name(&furnace));
         }
     }
 
@@ -99,6 +108,21 @@ impl Comparison {
             self.also(call, &lending);
         }
     }
+}
+
+/// The name of a reading of references in the counts: how many columns have a curve.
+fn references_name(furnace: &Result<Furnace, Refusal>) -> String {
+    let curves = match furnace {
+        Ok(furnace) => &furnace.curves,
+        Err(refusal) => return refused(refusal.number()),
+    };
+    let count = curves.iter().flatten().count();
+    match count {
+        0 => NO_CURVE,
+        _ if count < curves.len() => SOME_CURVES,
+        _ => ALL_CURVES,
+    }
+    .to_string()
 }
 
 /// The name of a solve's answer in the counts.

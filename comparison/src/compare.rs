@@ -98,6 +98,7 @@ fn add(comparison: &mut Comparison, part: Part) {
     match part {
         Part::Slips => edges::add_slips(comparison),
         Part::Tapes => edges::add_tapes(comparison),
+        Part::Places => edges::add_places(comparison),
         Part::Slices => edges::add_slices(comparison),
         Part::Equal => edges::add_equal(comparison),
         Part::Case(seed) => comparison.add_case(seed),

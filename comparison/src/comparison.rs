@@ -3,7 +3,7 @@
 use std::fmt::Debug;
 use std::path::PathBuf;
 
-use reference::count::{answers, Counts};
+use reference::count::{answers, step_refusals, Counts, STEPS};
 use reference::slip as slip_text;
 
 use crate::calls::{by_planner, by_reference, Answer, Call, Left, Lending};
@@ -15,7 +15,16 @@ use crate::{slip, tune, wrapper};
 const MOST_DIFFERENCES: u64 = 5;
 
 /// Longer inputs, which only the slip program gets, are printed in part.
-const MOST_PRINTED: usize = 700;
+const MOST_PRINTED: usize = 1_300;
+
+/// The heading of the call that reads the references by step.
+pub const REFERENCES: &str = "read references";
+/// Of [`REFERENCES`]: no column has a curve.
+pub const NO_CURVE: &str = "no curve";
+/// Of [`REFERENCES`]: some columns have one, and some do not.
+pub const SOME_CURVES: &str = "some curves";
+/// Of [`REFERENCES`]: every column has one.
+pub const ALL_CURVES: &str = "all curves";
 
 /// The heading of calls that are counted apart from the generated cases.
 const ALSO: &str = "also";
@@ -25,6 +34,8 @@ pub const CUT: &str = "tape cut, its rest behind it";
 pub const JUDGED: &str = "judged what a solve left";
 /// Of [`ALSO`]: tapes of every length.
 pub const TAPE_LENGTHS: &str = "tape lengths";
+/// Of [`ALSO`]: tapes with a command left out, given again or alone.
+pub const PLACES: &str = "places of the longest tape";
 /// Of [`ALSO`]: plans of every length.
 pub const PLAN_LENGTHS: &str = "plan lengths";
 /// Of [`ALSO`]: multipliers of every length.
@@ -58,12 +69,16 @@ impl Comparison {
             CUT,
             JUDGED,
             TAPE_LENGTHS,
+            PLACES,
             PLAN_LENGTHS,
             MULTIPLIER_LENGTHS,
             EQUAL,
         ];
         counts.expect(ALSO, also.map(str::to_string));
         let refusals = [1, 2, 3, 4, 5, 6, 7, 8];
+        let curves = [NO_CURVE, SOME_CURVES, ALL_CURVES];
+        counts.expect(REFERENCES, answers(&curves, &refusals));
+        counts.expect(STEPS, step_refusals());
         counts.expect(
             "slip",
             answers(&["proved", "impossible", "open"], &refusals),

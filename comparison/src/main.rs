@@ -22,7 +22,7 @@ comparison: the planner against the second program
 
 comparison compare [COUNT [SEED]]
     Makes COUNT (20000) cases from the seeds SEED (0), SEED + 1, .. by the second program's
-    generators and runs them through the four calls of libplanner.a and through the second
+    generators and runs them through the five calls of libplanner.a and through the second
     program; before them tapes and slices of every length, and inputs of the program slip. Every
     number of every answer and of everything lent is compared, refusals included, with guard
     cells around what is lent; so is the text of the program slip. Says every 10000 tapes on
@@ -37,8 +37,9 @@ comparison compare-here COUNT SEED
 
 comparison replay PART
     Repeats one part of a comparison: the case of a seed, where PART is a number; inputs of the
-    program slip (slips), tapes of every length (tapes), plans and multipliers of every length
-    (slices), floors at the ceiling (equal).
+    program slip (slips), tapes of every length (tapes), the longest tape with a command left out,
+    given again or alone (places), plans and multipliers of every length (slices), floors at the
+    ceiling (equal).
 
 comparison memory [COUNT [SEED]]
     Compares COUNT (150) cases with each thing that is lent in a block of just its size. Under

@@ -3,7 +3,7 @@
 use reference::count::CALLS;
 use reference::generate::{kind, Kind};
 
-use crate::comparison::Comparison;
+use crate::comparison::{Comparison, REFERENCES};
 use crate::guard::Beside;
 use crate::part::Part;
 
@@ -17,7 +17,7 @@ pub fn memory(count: u64, first_seed: u64) -> Result<(), String> {
         comparison.part = Part::Case(seed);
         comparison.add_case(seed);
     }
-    let of_calls = |heading: &str| CALLS.contains(&heading);
+    let of_calls = |heading: &str| CALLS.contains(&heading) || heading == REFERENCES;
     print!("{}", comparison.counts.text_of(of_calls));
     println!("{}", comparison.summary());
     comparison.verdict()?;

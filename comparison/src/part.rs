@@ -10,6 +10,8 @@ pub enum Part {
     Slips,
     /// Tapes of every length.
     Tapes,
+    /// The longest tape with one of its commands left out, given again or alone.
+    Places,
     /// Plans and multipliers of every length.
     Slices,
     /// Multipliers whose floor is the ceiling.
@@ -20,7 +22,13 @@ pub enum Part {
 
 impl Part {
     /// All but the cases.
-    pub const EDGES: [Part; 4] = [Part::Slips, Part::Tapes, Part::Slices, Part::Equal];
+    pub const EDGES: [Part; 5] = [
+        Part::Slips,
+        Part::Tapes,
+        Part::Places,
+        Part::Slices,
+        Part::Equal,
+    ];
 
     /// The part, with the command that repeats it.
     pub fn origin(&self) -> String {
@@ -37,6 +45,7 @@ impl fmt::Display for Part {
         match self {
             Part::Slips => f.write_str("slips"),
             Part::Tapes => f.write_str("tapes"),
+            Part::Places => f.write_str("places"),
             Part::Slices => f.write_str("slices"),
             Part::Equal => f.write_str("equal"),
             Part::Case(seed) => write!(f, "{seed}"),

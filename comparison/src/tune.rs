@@ -61,12 +61,12 @@ fn gap_raised(open: &Furnace, random: &mut Random) -> Vec<Furnace> {
     places.into_iter().map(raised).collect()
 }
 
-/// Limits as wide around the references as 'impossible' allows.
+/// Limits as wide around the references of step 0 as 'impossible' allows.
 fn limits_narrowed(open: &Furnace, random: &mut Random) -> Option<Furnace> {
     for width in WIDTHS {
         let mut furnace = open.clone();
-        for column in &mut furnace.columns {
-            let middle = column.limit(column.reference);
+        for (place, column) in furnace.columns.iter_mut().enumerate() {
+            let middle = column.limit(open.reference(place, 0));
             column.lo = column.lo.max(middle - width);
             column.hi = column.hi.min(middle + width);
         }

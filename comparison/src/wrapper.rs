@@ -1,10 +1,10 @@
 //! The same calls through the safe wrapper's own types.
 
 use fibergravel as planner;
-use reference::cases::read_numbers;
+use reference::cases::{read_numbers, reference_numbers};
 use reference::{Refusal, Solved};
 
-use crate::calls::{narrow, Answer, Call, Left, Lending};
+use crate::calls::{narrow, narrow_all, Answer, Call, Left, Lending};
 
 /// What the wrapper says, as a text, where it differs from the second program.
 pub fn difference(call: Call, lending: &Lending, answer: &Answer, left: &Left) -> Option<String> {
@@ -14,41 +14,35 @@ pub fn difference(call: Call, lending: &Lending, answer: &Answer, left: &Left) -
     let (same, text) = match (call, answer) {
         (Call::Read, Answer::Read(expected)) => {
             let found = planner::read(tape);
-            let same = match (&found, expected) {
-                (Ok(found), Ok(expected)) => {
-                    let expected = read_numbers(expected).into_iter().map(narrow);
-                    numbers(found).into_iter().eq(expected)
-                }
-                (Err(found), Err(expected)) => same_refusal(*found, *expected),
-                _ => false,
-            };
+            let same = same(&found, expected, |found, expected| {
+                numbers(found) == narrow_all(read_numbers(expected))
+            });
+            (same, format!("{found:?}"))
+        }
+        (Call::ReadReferences, Answer::References(expected)) => {
+            let found = planner::read_references(tape);
+            let same = same(&found, expected, |found, expected| {
+                references(found) == narrow_all(reference_numbers(expected))
+            });
             (same, format!("{found:?}"))
         }
         (Call::JudgePlan, Answer::Gap(expected)) => {
             let found = planner::judge_plan(tape, &plan, &multipliers);
-            let same = match (found, *expected) {
-                (Ok(found), Ok(expected)) => found == narrow(expected),
-                (Err(found), Err(expected)) => same_refusal(found, expected),
-                _ => false,
-            };
+            let same = same(&found, expected, |found, expected| {
+                *found == narrow(*expected)
+            });
             (same, format!("{found:?}"))
         }
         (Call::JudgeMultipliers, Answer::Shown(expected)) => {
             let found = planner::judge_multipliers(tape, &multipliers);
-            let same = match (found, *expected) {
-                (Ok(planner::Shown), Ok(reference::Shown)) => true,
-                (Err(found), Err(expected)) => same_refusal(found, expected),
-                _ => false,
-            };
+            let same = same(&found, expected, |planner::Shown, reference::Shown| true);
             (same, format!("{found:?}"))
         }
         (Call::Solve, Answer::Solved(expected)) => {
             let found = planner::solve(tape, &mut plan, &mut multipliers);
-            let same = match (found, *expected) {
-                (Ok(found), Ok(expected)) => found == as_planner(expected),
-                (Err(found), Err(expected)) => same_refusal(found, expected),
-                _ => false,
-            };
+            let same = same(&found, expected, |found, expected| {
+                *found == as_planner(*expected)
+            });
             (same, format!("{found:?}"))
         }
         _ => (false, "an answer of another call".to_string()),
@@ -59,6 +53,19 @@ pub fn difference(call: Call, lending: &Lending, answer: &Answer, left: &Left) -
     Some(format!(
         "{text}, plan {plan:?}, multipliers {multipliers:?}"
     ))
+}
+
+/// Are both results, and equal ones, or both the same refusal?
+fn same<Found, Expected>(
+    found: &Result<Found, planner::Refusal>,
+    expected: &Result<Expected, Refusal>,
+    equal: impl Fn(&Found, &Expected) -> bool,
+) -> bool {
+    match (found, expected) {
+        (Ok(found), Ok(expected)) => equal(found, expected),
+        (Err(found), Err(expected)) => same_refusal(*found, *expected),
+        _ => false,
+    }
 }
 
 /// Number and carried number are equal.
@@ -100,4 +107,12 @@ fn numbers(tape: &planner::Tape) -> Vec<i64> {
         &search,
     ]
     .concat()
+}
+
+/// A tape's references and then their marks, in the order of the call.
+fn references(references: &planner::References) -> Vec<i64> {
+    let given = references.given.as_flattened();
+    let numbers = given.iter().map(|reference| reference.unwrap_or(0));
+    let marks = given.iter().map(|reference| i64::from(reference.is_some()));
+    numbers.chain(marks).collect()
 }

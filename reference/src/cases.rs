@@ -5,6 +5,7 @@
 //!
 //! ```text
 //! read HEX
+//! steps HEX
 //! judge HEX / plan numbers / multipliers
 //! show HEX / multipliers
 //! solve HEX / plan numbers / multipliers
@@ -20,7 +21,7 @@ use std::str::FromStr;
 use crate::calls::{judge_multipliers, judge_plan, read, solve, Shown, Solved};
 use crate::model::{floor_div, Column, Furnace, Whole};
 use crate::refusal::Refusal;
-use crate::tape::{signed, unsigned, MOST_COLUMNS, MOST_INPUTS, MOST_STATES};
+use crate::tape::{signed, unsigned, MOST_COLUMNS, MOST_INPUTS, MOST_STATES, MOST_STEPS};
 
 /// The expected output for a text of cases, or what is wrong with the text.
 pub fn expect(text: &str) -> Result<String, String> {
@@ -43,6 +44,10 @@ fn answer(line: &str) -> Result<String, String> {
     match (call, parts.as_slice()) {
         ("read", [tape]) => Ok(match read(&bytes(tape)?) {
             Ok(furnace) => listed("read", read_numbers(&furnace)),
+            Err(refusal) => refused(refusal),
+        }),
+        ("steps", [tape]) => Ok(match read(&bytes(tape)?) {
+            Ok(furnace) => listed("steps", reference_numbers(&furnace)),
             Err(refusal) => refused(refusal),
         }),
         ("judge", [tape, plan, multipliers]) => {
@@ -71,7 +76,7 @@ fn answer(line: &str) -> Result<String, String> {
             };
             Ok(answer + &listed("plan", plan) + &listed("multipliers", multipliers))
         }
-        ("read" | "judge" | "show" | "solve", _) => {
+        ("read" | "steps" | "judge" | "show" | "solve", _) => {
             Err(format!("`{call}` has another number of parts"))
         }
         _ => whole_numbers(call, &parts),
@@ -192,6 +197,20 @@ pub fn read_numbers(furnace: &Furnace) -> Vec<Whole> {
     numbers.push(furnace.step_size);
     numbers.push(Whole::from(furnace.rounds));
     numbers.push(furnace.wanted_gap);
+    numbers
+}
+
+/// The references of steps as 240 numbers: the one for column c and step k at 12c + k, 0 where none
+/// is given, then their marks, 1 where one is given, at 120 + 12c + k.
+pub fn reference_numbers(furnace: &Furnace) -> Vec<Whole> {
+    let places = MOST_COLUMNS * MOST_STEPS;
+    let mut numbers = vec![0; 2 * places];
+    for (c, curve) in furnace.curves.iter().enumerate() {
+        for (k, reference) in curve.iter().flatten().enumerate() {
+            numbers[c * MOST_STEPS + k] = *reference;
+            numbers[places + c * MOST_STEPS + k] = 1;
+        }
+    }
     numbers
 }
 

@@ -6,8 +6,10 @@ use crate::calls::{judge_multipliers, judge_plan, read, solve, Shown, Solved};
 use crate::generate::{case, Case, Kind};
 use crate::model::{Furnace, Whole};
 use crate::refusal::Refusal;
-use crate::shapes::SHAPES;
-use crate::tape::{MOST_INPUTS, MOST_ROUNDS, MOST_STATES, MOST_STEPS};
+use crate::shapes::{curves, SHAPES};
+use crate::tape::{
+    operand_bytes, END, MOST_INPUTS, MOST_ROUNDS, MOST_STATES, MOST_STEPS, STEP_REFERENCE,
+};
 
 /// Rounds are counted in groups, each with its last number and its name. The last group is the
 /// largest R alone.
@@ -27,6 +29,15 @@ const GROUPS: [(u32, &str); 10] = [
 /// Counted with the shapes: an answer in the last round that R allows.
 const LAST_ROUND: &str = "in round R";
 
+/// Counted with the shapes: an answer for a curve that took more than the first rounds.
+const LATER_WITH_CURVE: &str = "a curve, 3 rounds or more";
+
+/// The heading of tapes that [`read`] accepts, by their curves.
+const CURVES: &str = "read, curves";
+
+/// The heading of refusals that a command 31 brings about, which [`Counts::add_steps`] counts.
+pub const STEPS: &str = "read, refused for a 31";
+
 /// Counts by heading, then by name, in the order in which they are printed.
 #[derive(Clone, Debug, Default, PartialEq, Eq)]
 pub struct Counts {
@@ -34,7 +45,7 @@ pub struct Counts {
     counts: BTreeMap<(String, String), u64>,
 }
 
-/// The headings of the four calls.
+/// The headings of document 01's calls.
 pub const CALLS: [&str; 4] = ["read", "judge plan", "judge multipliers", "solve"];
 
 impl Counts {
@@ -43,6 +54,8 @@ impl Counts {
         let mut counts = Counts::default();
         counts.expect("tape", Kind::ALL.map(|kind| format!("{kind:?}")));
         counts.expect("read", answers(&["accepted"], &[1, 2, 3, 4, 5, 6, 7, 8]));
+        let curves = ["on no column", "on some columns", "on all columns"];
+        counts.expect(CURVES, curves.map(str::to_string));
         counts.expect(
             "judge plan",
             answers(&["gap"], &[1, 2, 3, 4, 5, 6, 7, 8, 9, 10, 11, 12, 13]),
@@ -64,7 +77,8 @@ impl Counts {
                 &heading("rounds"),
                 groups.iter().map(|(_, name)| name.to_string()),
             );
-            let shapes = SHAPES.iter().map(|(name, _)| *name).chain([LAST_ROUND]);
+            let shapes = SHAPES.iter().map(|(name, _)| *name);
+            let shapes = shapes.chain([LATER_WITH_CURVE, LAST_ROUND]);
             counts.expect(&heading("shape"), shapes.map(str::to_string));
             counts.expect(&heading("n"), up_to(MOST_STATES));
             counts.expect(&heading("m"), up_to(MOST_INPUTS));
@@ -113,6 +127,9 @@ impl Counts {
                 self.add(&shape, name);
             }
         }
+        if curves(furnace) > 0 && rounds >= 3 {
+            self.add(&shape, LATER_WITH_CURVE);
+        }
         if rounds == furnace.rounds {
             self.add(&shape, LAST_ROUND);
         }
@@ -127,6 +144,25 @@ impl Counts {
     pub fn add_read(&mut self, answer: &Result<Furnace, Refusal>) {
         let accepted = answer.as_ref().map(|_| "accepted");
         self.add_answer("read", accepted.map_err(|refusal| *refusal));
+        if let Ok(furnace) = answer {
+            let name = match curves(furnace) {
+                0 => "on no column",
+                count if count == furnace.columns.len() => "on all columns",
+                _ => "on some columns",
+            };
+            self.add(CURVES, name);
+        }
+    }
+
+    /// Counts a tape's refusal where a command 31 brings it about. [`Counts::of_calls`] has no
+    /// [`STEPS`]: whoever counts here expects [`step_refusals`] under it.
+    pub fn add_steps(&mut self, tape: &[u8], answer: &Result<Furnace, Refusal>) {
+        match answer {
+            Err(refusal) if is_for_a_step(tape, *refusal) => {
+                self.add(STEPS, &refused(refusal.number()));
+            }
+            _ => (),
+        }
     }
 
     /// Counts an answer of [`judge_plan`].
@@ -161,6 +197,7 @@ impl Counts {
         self.add_tape(case.tape.kind);
         let furnace = read(tape);
         self.add_read(&furnace);
+        self.add_steps(tape, &furnace);
         for lent in &case.judged {
             self.add_gap(judge_plan(tape, &lent.plan, &lent.multipliers));
             self.add_shown(judge_multipliers(tape, &lent.multipliers));
@@ -232,6 +269,43 @@ pub fn answers(words: &[&str], refusals: &[u32]) -> Vec<String> {
         .collect()
 }
 
+/// The names under [`STEPS`].
+pub fn step_refusals() -> Vec<String> {
+    answers(&[], &[1, 3, 4, 5, 6, 7])
+}
+
+/// Does a command 31 bring the tape's refusal about?
+fn is_for_a_step(tape: &[u8], refusal: Refusal) -> bool {
+    match refusal {
+        Refusal::Cut { offset }
+        | Refusal::Misplaced { offset }
+        | Refusal::NoSuchPlace { offset }
+        | Refusal::OutOfRange { offset }
+        | Refusal::Twice { offset } => tape.get(offset) == Some(&STEP_REFERENCE),
+        Refusal::Absent { .. } => {
+            let without = read(&without_steps(tape));
+            !matches!(without, Err(Refusal::Absent { .. }))
+        }
+        _ => false,
+    }
+}
+
+/// A tape whose commands are whole up to FF, without its commands 31.
+fn without_steps(tape: &[u8]) -> Vec<u8> {
+    let mut kept = Vec::new();
+    let mut rest = tape;
+    while rest[0] != END {
+        let operands = operand_bytes(rest[0]).expect("a known command");
+        let (command, behind) = rest.split_at(1 + operands);
+        if command[0] != STEP_REFERENCE {
+            kept.extend(command);
+        }
+        rest = behind;
+    }
+    kept.extend(rest);
+    kept
+}
+
 /// The numbers from 1 to `most` as names.
 fn up_to(most: usize) -> Vec<String> {
     (1..=most).map(|number| number.to_string()).collect()
@@ -240,6 +314,7 @@ fn up_to(most: usize) -> Vec<String> {
 /// Runs the cases of `count` seeds from `first_seed` on.
 pub fn count_cases(count: u64, first_seed: u64) -> Counts {
     let mut counts = Counts::of_calls();
+    counts.expect(STEPS, step_refusals());
     for place in 0..count {
         counts.add_case(&case(first_seed.wrapping_add(place)));
     }

@@ -68,12 +68,12 @@ pub fn pieces(furnace: &Furnace, y: &Multipliers) -> Whole {
     let mut sum = 0;
     for k in 0..furnace.horizon {
         for j in 0..furnace.inputs {
-            sum += piece(furnace.input_column(j), input_slope(furnace, y, k, j));
+            sum += piece(&furnace.input_at(k, j), input_slope(furnace, y, k, j));
         }
     }
     for k in 1..=furnace.horizon {
         for i in 0..furnace.states {
-            sum += piece(furnace.state_column(i), state_slope(furnace, y, k, i));
+            sum += piece(&furnace.state_at(k, i), state_slope(furnace, y, k, i));
         }
     }
     sum
@@ -100,8 +100,9 @@ pub fn gap(furnace: &Furnace, plan: &Plan, y: &Multipliers) -> Whole {
 /// within its limits costs more.
 pub fn ceiling(furnace: &Furnace) -> Whole {
     let mut sum = 0;
-    for _step in 0..furnace.horizon {
-        for column in &furnace.columns {
+    for k in 0..furnace.horizon {
+        for c in 0..furnace.columns.len() {
+            let column = furnace.column_at(c, k);
             sum += column.cost(column.lo).max(column.cost(column.hi));
         }
     }

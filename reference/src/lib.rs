@@ -1,10 +1,11 @@
 //! A second program for the sinter furnace planner.
 //!
-//! It is written from document 01 ("Sinter furnace planner: tape, plan, gap") alone, so that
-//! the planner's answers can be compared with it. It puts plainness before speed: the sums are
-//! written as the paper writes them, and all whole numbers have 128 bits.
+//! It is written from the papers alone, so that the planner's answers can be compared with it:
+//! document 01 ("Sinter furnace planner: tape, plan, gap") and request 1 of document 02 ("Requests
+//! for later changes"), a reference for each step. It puts plainness before speed: the sums are
+//! written as the papers write them, and all whole numbers have 128 bits.
 //!
-//! The modules follow the paper's sections: [`model`], [`tape`], [`floor`], [`rounds`],
+//! The modules follow document 01's sections: [`model`], [`tape`], [`floor`], [`rounds`],
 //! [`calls`], [`refusal`] and [`mod@slip`]. [`cases`] answers a text of test cases, [`generate`]
 //! makes tapes, plans and multipliers from a seed, and [`count`] counts what they lead to, by
 //! rounds, sizes and [`shapes`].

@@ -10,7 +10,7 @@ use reference::count::count_cases;
 use reference::slip;
 
 const HELP: &str = "\
-reference: a second program for the sinter furnace planner, written from document 01 alone
+reference: a second program for the sinter furnace planner, written from the papers alone
 
 reference slip < TAPE
     Writes the firing slip of the tape on standard input.
@@ -20,6 +20,7 @@ reference expect < CASES
     line; blank lines and lines that begin with # are passed over. Parts may be empty; hex
     digits may have blanks between bytes.
         read HEX
+        steps HEX
         judge HEX / plan numbers / multipliers
         show HEX / multipliers
         solve HEX / plan numbers / multipliers
@@ -27,6 +28,9 @@ reference expect < CASES
         refused NUMBER CARRIED    CARRIED is an offset, R, or - for nothing
         read ..                   118 numbers: n m N, A by rows of 6, B by rows of 4, w, lo,
                                   hi, r, h, x(0), g, R, T; places beyond the sizes are 0
+        steps ..                  240 numbers: the reference of command 31 for column c and
+                                  step k at 12c + k, 0 where none is given; its mark, 1 where
+                                  one is given, at 120 + 12c + k
         gap GAP                   of judge
         shown                     of show
         proved ROUNDS GAP d d d d    of solve, with u(0) in 4 places
@@ -44,9 +48,9 @@ reference expect < CASES
 
 reference generate [COUNT [SEED]]
     Makes COUNT (10000) cases from the seeds SEED (0), SEED + 1, .., runs them through all
-    calls and writes how often each answer and each refusal came, and how often 'proved' and
-    'impossible' came by rounds, sizes and rare shapes. Fails if a count is 0, which is to be
-    expected of a small COUNT.
+    calls and writes how often each answer and each refusal came, how often 'proved' and
+    'impossible' came by rounds, sizes, rare shapes and curves, and how often a command 31
+    brought a refusal about. Fails if a count is 0, which is to be expected of a small COUNT.
 ";
 
 fn main() -> ExitCode {

@@ -22,7 +22,9 @@ pub fn floor_div(dividend: Whole, divisor: Whole) -> Whole {
     }
 }
 
-/// What the tape gives for one column (a state or an input), the same in all steps.
+/// What command 30 gives for one column (a state or an input), the same in all steps. Where the
+/// column has a curve, [`Furnace::state_at`] and [`Furnace::input_at`] put a step's own reference
+/// in the place of r.
 #[derive(Clone, Copy, Debug, PartialEq, Eq)]
 pub struct Column {
     /// Lower limit, itself allowed.
@@ -75,6 +77,9 @@ pub struct Furnace {
     pub drift: Vec<Whole>,
     /// States 0 to n−1, then inputs n to n+m−1.
     pub columns: Vec<Column>,
+    /// The curve of each column: its references by step as command 31 gives them. A column without
+    /// any 31 has none.
+    pub curves: Vec<Option<Vec<Whole>>>,
     /// x(0), the start.
     pub start: Vec<Whole>,
     /// g, the step size.
@@ -86,6 +91,33 @@ pub struct Furnace {
 }
 
 impl Furnace {
+    /// The reference of a column at step k: the step's own where the column has a curve, else
+    /// command 30's.
+    pub fn reference(&self, column: usize, k: usize) -> Whole {
+        match &self.curves[column] {
+            Some(curve) => curve[k],
+            None => self.columns[column].reference,
+        }
+    }
+
+    /// A column with its reference at step k.
+    pub fn column_at(&self, column: usize, k: usize) -> Column {
+        Column {
+            reference: self.reference(column, k),
+            ..self.columns[column]
+        }
+    }
+
+    /// The column of u(k,j), with the reference of step k.
+    pub fn input_at(&self, k: usize, j: usize) -> Column {
+        self.column_at(self.states + j, k)
+    }
+
+    /// The column of x(k,i), k from 1 to N. Step k−1 covers it.
+    pub fn state_at(&self, k: usize, i: usize) -> Column {
+        self.column_at(i, k - 1)
+    }
+
     /// The column of state i.
     pub fn state_column(&self, i: usize) -> &Column {
         &self.columns[i]
@@ -144,17 +176,17 @@ pub fn residual(furnace: &Furnace, plan: &Plan, k: usize, i: usize) -> Whole {
     model_sum(furnace, &plan.x[k], &plan.u[k], i) - UNIT * plan.x[k + 1][i]
 }
 
-/// K, the sum of P × (v − r)² over the plan's numbers. x(0) bears no cost.
+/// K, the sum of P × (v − r)² over the plan's numbers, r being the step's. x(0) bears no cost.
 pub fn cost(furnace: &Furnace, plan: &Plan) -> Whole {
     let mut sum = 0;
     for k in 0..furnace.horizon {
         for j in 0..furnace.inputs {
-            sum += furnace.input_column(j).cost(plan.u[k][j]);
+            sum += furnace.input_at(k, j).cost(plan.u[k][j]);
         }
     }
     for k in 1..=furnace.horizon {
         for i in 0..furnace.states {
-            sum += furnace.state_column(i).cost(plan.x[k][i]);
+            sum += furnace.state_at(k, i).cost(plan.x[k][i]);
         }
     }
     sum

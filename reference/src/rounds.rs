@@ -126,13 +126,13 @@ fn all_minimisers(furnace: &Furnace, y_tilde: &Multipliers) -> Plan {
     for k in 0..furnace.horizon {
         for j in 0..furnace.inputs {
             let s = input_slope(furnace, y_tilde, k, j);
-            numbers.u[k][j] = minimiser(furnace.input_column(j), s);
+            numbers.u[k][j] = minimiser(&furnace.input_at(k, j), s);
         }
     }
     for k in 1..=furnace.horizon {
         for i in 0..furnace.states {
             let s = state_slope(furnace, y_tilde, k, i);
-            numbers.x[k][i] = minimiser(furnace.state_column(i), s);
+            numbers.x[k][i] = minimiser(&furnace.state_at(k, i), s);
         }
     }
     numbers

@@ -1,5 +1,7 @@
 //! Shapes of furnaces that random numbers hardly have.
 
+use std::ops::Range;
+
 use crate::model::{Column, Furnace, Whole};
 use crate::tape::{ENTRY_RANGE, MOST_INPUTS, MOST_STATES, MOST_STEPS};
 
@@ -13,7 +15,7 @@ pub const LARGE: Whole = ENTRY_RANGE / 2;
 pub type Shape = (&'static str, fn(&Furnace) -> bool);
 
 /// The shapes. Answers to furnaces of each are counted.
-pub const SHAPES: [Shape; 9] = [
+pub const SHAPES: [Shape; 13] = [
     ("state r below lo", |f| {
         states(f).any(|c| c.reference < c.lo)
     }),
@@ -35,16 +37,34 @@ pub const SHAPES: [Shape; 9] = [
     ("full size", |f| {
         (f.states, f.inputs, f.horizon) == (MOST_STATES, MOST_INPUTS, MOST_STEPS)
     }),
+    ("curves on all columns", |f| curves(f) == f.columns.len()),
+    ("curves on some columns", |f| {
+        (1..f.columns.len()).contains(&curves(f))
+    }),
+    ("a curve of 1 step", |f| curves(f) > 0 && f.horizon == 1),
+    ("a curve of 12 steps", |f| {
+        curves(f) > 0 && f.horizon == MOST_STEPS
+    }),
 ];
 
-/// The columns of states.
-fn states(furnace: &Furnace) -> impl Iterator<Item = &Column> {
-    furnace.columns[..furnace.states].iter()
+/// How many columns have a curve.
+pub fn curves(furnace: &Furnace) -> usize {
+    furnace.curves.iter().flatten().count()
 }
 
-/// The columns of inputs.
-fn inputs(furnace: &Furnace) -> impl Iterator<Item = &Column> {
-    furnace.columns[furnace.states..].iter()
+/// The columns of states, with the references of every step.
+fn states(furnace: &Furnace) -> impl Iterator<Item = Column> + '_ {
+    in_every_step(furnace, 0..furnace.states)
+}
+
+/// The columns of inputs, with the references of every step.
+fn inputs(furnace: &Furnace) -> impl Iterator<Item = Column> + '_ {
+    in_every_step(furnace, furnace.states..furnace.columns.len())
+}
+
+/// The columns of a range, with the references of every step.
+fn in_every_step(furnace: &Furnace, columns: Range<usize>) -> impl Iterator<Item = Column> + '_ {
+    columns.flat_map(move |c| (0..furnace.horizon).map(move |k| furnace.column_at(c, k)))
 }
 
 /// Are there large entries of both signs?

@@ -13,6 +13,8 @@ pub const INPUT_ENTRY: u8 = 0x21;
 pub const DRIFT: u8 = 0x22;
 /// Command 30: limits, reference and weight of a column.
 pub const COLUMN: u8 = 0x30;
+/// Command 31: the reference of a column at one step.
+pub const STEP_REFERENCE: u8 = 0x31;
 /// Command 40: a start value.
 pub const START: u8 = 0x40;
 /// Command 50: g, R and T.
@@ -32,7 +34,7 @@ pub const MOST_COLUMNS: usize = MOST_STATES + MOST_INPUTS;
 pub const ENTRY_RANGE: Whole = 16_384;
 /// Entries of w lie in −16,777,216 to 16,777,216.
 pub const DRIFT_RANGE: Whole = 16_777_216;
-/// lo, hi, r and start values lie in −20,000 to 20,000.
+/// lo, hi, r, the references of steps and start values lie in −20,000 to 20,000.
 pub const NUMBER_RANGE: Whole = 20_000;
 /// The largest weight h.
 pub const MOST_WEIGHT: Whole = 255;
@@ -47,6 +49,7 @@ pub fn operand_bytes(command: u8) -> Option<usize> {
         INPUT_ENTRY => Some(1 + 1 + 2),
         DRIFT => Some(1 + 4),
         COLUMN => Some(1 + 2 + 2 + 2 + 1),
+        STEP_REFERENCE => Some(1 + 1 + 2),
         START => Some(1 + 2),
         SEARCH => Some(2 + 2 + 4),
         END => Some(0),
@@ -77,7 +80,8 @@ pub fn signed(bytes: &[u8]) -> Whole {
 }
 
 /// What the commands so far have given. `None` is a place that was not given; it is kept for
-/// A, B and w too, since a 0 that was given counts for refusal 6.
+/// A, B and w too, since a 0 that was given counts for refusal 6. A step's reference of 0 that was
+/// given counts for refusal 7 as well.
 struct Given {
     states: usize,
     inputs: usize,
@@ -86,6 +90,7 @@ struct Given {
     b: Vec<Vec<Option<Whole>>>,
     drift: Vec<Option<Whole>>,
     columns: Vec<Option<Column>>,
+    curves: Vec<Vec<Option<Whole>>>,
     start: Vec<Option<Whole>>,
     search: Option<Search>,
 }
@@ -147,6 +152,7 @@ fn size(operands: &[u8], offset: usize) -> Result<Given, Refusal> {
         b: vec![vec![None; inputs]; states],
         drift: vec![None; states],
         columns: vec![None; states + inputs],
+        curves: vec![vec![None; horizon]; states + inputs],
         start: vec![None; states],
         search: None,
     })
@@ -206,6 +212,12 @@ impl Given {
                 let value = column(&operands[1..8], offset)?;
                 put(&mut self.columns[c], value, offset)
             }
+            STEP_REFERENCE => {
+                let c = place(operands[0], self.states + self.inputs, offset)?;
+                let k = place(operands[1], self.horizon, offset)?;
+                let value = number(&operands[2..4], offset)?;
+                put(&mut self.curves[c][k], value, offset)
+            }
             START => {
                 let i = place(operands[0], self.states, offset)?;
                 let value = number(&operands[1..3], offset)?;
@@ -225,7 +237,7 @@ fn entry(bytes: &[u8], offset: usize) -> Result<Whole, Refusal> {
     in_range(signed(bytes), -ENTRY_RANGE, ENTRY_RANGE, offset)
 }
 
-/// One of lo, hi, r and the start values.
+/// One of lo, hi, r, a step's reference and the start values.
 fn number(bytes: &[u8], offset: usize) -> Result<Whole, Refusal> {
     in_range(signed(bytes), -NUMBER_RANGE, NUMBER_RANGE, offset)
 }
@@ -263,7 +275,10 @@ fn search(bytes: &[u8], offset: usize) -> Result<Search, Refusal> {
 fn finish(given: Given, tape: &[u8], offset: usize) -> Result<Furnace, Refusal> {
     let columns: Option<Vec<Column>> = given.columns.into_iter().collect();
     let start: Option<Vec<Whole>> = given.start.into_iter().collect();
-    let (Some(columns), Some(start), Some(search)) = (columns, start, given.search) else {
+    let curves: Option<Vec<_>> = given.curves.into_iter().map(curve).collect();
+    let (Some(columns), Some(curves), Some(start), Some(search)) =
+        (columns, curves, start, given.search)
+    else {
         return Err(Refusal::Absent { offset });
     };
     if tape.len() > offset + 1 {
@@ -277,11 +292,22 @@ fn finish(given: Given, tape: &[u8], offset: usize) -> Result<Furnace, Refusal> 
         b: given.b.into_iter().map(absent_as_zero).collect(),
         drift: absent_as_zero(given.drift),
         columns,
+        curves,
         start,
         step_size: search.step_size,
         rounds: search.rounds,
         wanted_gap: search.wanted_gap,
     })
+}
+
+/// What the steps of a column come to: no curve where none was given, the curve where all were, and
+/// nothing, which is refusal 7, where only some were.
+fn curve(steps: Vec<Option<Whole>>) -> Option<Option<Vec<Whole>>> {
+    if steps.iter().all(Option::is_none) {
+        return Some(None);
+    }
+    let curve: Option<Vec<Whole>> = steps.into_iter().collect();
+    curve.map(Some)
 }
 
 /// The entries of a row, absent ones as 0.

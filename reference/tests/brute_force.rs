@@ -8,8 +8,14 @@ use reference::model::{Column, Furnace};
 use reference::rounds::minimiser;
 use reference::*;
 
-/// A furnace of one state and one input with narrow limits.
+/// A furnace of one state and one input with narrow limits and one or two steps.
 fn tiny(random: &mut Random) -> Furnace {
+    let horizon = 1 + random.below(2);
+    tiny_of(horizon, random)
+}
+
+/// [`tiny`] with a given number of steps. Half of the columns have a curve.
+fn tiny_of(horizon: usize, random: &mut Random) -> Furnace {
     let narrow = |random: &mut Random, width: Whole| {
         let lo = random.between(-12, 12);
         Column {
@@ -28,16 +34,30 @@ fn tiny(random: &mut Random) -> Furnace {
     Furnace {
         states: 1,
         inputs: 1,
-        horizon: 1 + random.below(2),
+        horizon,
         a: vec![vec![a]],
         b: vec![vec![b]],
         drift: vec![random.between(-20_000, 20_000)],
         columns: vec![state, input],
+        curves: vec![curve(horizon, random), curve(horizon, random)],
         start: vec![random.between(-20, 20)],
         step_size: (131_072 / size * random.between(1, 8) / 4).clamp(1, 65_535),
         rounds: random.between(1, 60) as u32,
         wanted_gap: random.between(0, 3_000_000),
     }
+}
+
+/// A curve, or none.
+fn curve(horizon: usize, random: &mut Random) -> Option<Vec<Whole>> {
+    let steps = 0..horizon;
+    let curve = steps.map(|_| random.between(-20, 20)).collect();
+    random.one_in(2).then_some(curve)
+}
+
+/// Is there a curve that is no hold?
+fn has_ramp(furnace: &Furnace) -> bool {
+    let mut curves = furnace.curves.iter().flatten();
+    curves.any(|curve| curve.len() == 2 && curve[0] != curve[1])
 }
 
 /// A rival as the plan slice holds it, with its cost.
@@ -50,11 +70,15 @@ fn rivals(furnace: &Furnace) -> Vec<Rival> {
     let w = small(furnace.drift[0]);
     let [state, input] = [0, 1].map(|place| {
         let column = furnace.columns[place];
-        [column.lo, column.hi, column.reference, column.weight].map(small)
+        [column.lo, column.hi, column.weight].map(small)
     });
-    let cost = |column: [i64; 4], number: i64| 4096 * column[3] * (number - column[2]).pow(2);
     let mut found = vec![(Vec::new(), 0)];
-    for _step in 0..furnace.horizon {
+    for step in 0..furnace.horizon {
+        let [state_r, input_r] = [0, 1].map(|place| {
+            let hold = furnace.columns[place].reference;
+            let curve = furnace.curves[place].as_ref();
+            small(curve.map_or(hold, |curve| curve[step]))
+        });
         let mut longer = Vec::new();
         for (plan, spent) in found {
             let from = plan
@@ -67,7 +91,9 @@ fn rivals(furnace: &Furnace) -> Vec<Rival> {
                     if (-2048..=2047).contains(&(sum - 4096 * x)) {
                         let mut plan: Vec<i32> = plan.clone();
                         plan.extend([u as i32, x as i32]);
-                        longer.push((plan, spent + cost(input, u) + cost(state, x)));
+                        let state_cost = 4096 * state[2] * (x - state_r).pow(2);
+                        let input_cost = 4096 * input[2] * (u - input_r).pow(2);
+                        longer.push((plan, spent + state_cost + input_cost));
                     }
                 }
             }
@@ -142,7 +168,7 @@ fn shown_leaves_no_rival() {
 #[test]
 fn no_rival_is_cheaper_than_an_accepted_plan_by_more_than_its_gap() {
     let mut random = Random::new(3);
-    let mut accepted = 0;
+    let (mut accepted, mut ramps) = (0, 0);
     for _ in 0..600 {
         let mut furnace = tiny(&mut random);
         furnace.wanted_gap = random.choose(&[100_000, 1_000_000, 0xffff_ffff]);
@@ -156,6 +182,7 @@ fn no_rival_is_cheaper_than_an_accepted_plan_by_more_than_its_gap() {
             match judge_plan(&tape, plan, &y) {
                 Ok(gap) => {
                     accepted += 1;
+                    ramps += u32::from(has_ramp(&furnace));
                     assert!(gap >= 0 && gap <= furnace.wanted_gap);
                     assert!(least >= Whole::from(*cost) - gap, "{furnace:?}");
                 }
@@ -163,7 +190,7 @@ fn no_rival_is_cheaper_than_an_accepted_plan_by_more_than_its_gap() {
             }
         }
     }
-    assert!(accepted > 300, "{accepted}");
+    assert!(accepted > 300 && ramps > 100, "{accepted} {ramps}");
 }
 
 #[test]
@@ -171,8 +198,7 @@ fn only_rivals_are_accepted() {
     let mut random = Random::new(4);
     let (mut accepted, mut refused) = (0, 0);
     for _ in 0..400 {
-        let mut furnace = tiny(&mut random);
-        furnace.horizon = 1;
+        let mut furnace = tiny_of(1, &mut random);
         furnace.wanted_gap = 0xffff_ffff;
         let tape = commands::of_furnace(&furnace, &mut random).concat();
         let rivals = rivals(&furnace);
@@ -199,6 +225,7 @@ fn only_rivals_are_accepted() {
 fn solves_agree_with_the_list_of_rivals() {
     let mut random = Random::new(5);
     let (mut proved, mut late, mut impossible, mut open) = (0, 0, 0, 0);
+    let (mut late_ramps, mut impossible_ramps) = (0, 0);
     for _ in 0..4_000 {
         let furnace = tiny(&mut random);
         let tape = commands::of_furnace(&furnace, &mut random).concat();
@@ -217,11 +244,13 @@ fn solves_agree_with_the_list_of_rivals() {
                 assert_eq!(first, [plan[0], 0, 0, 0]);
                 proved += 1;
                 late += u32::from(rounds > 2);
+                late_ramps += u32::from(rounds > 2 && has_ramp(&furnace));
             }
             Ok(Solved::Impossible { .. }) => {
                 assert!(rivals.is_empty(), "{furnace:?}");
                 assert_eq!(judge_multipliers(&tape, &y), Ok(Shown));
                 impossible += 1;
+                impossible_ramps += u32::from(has_ramp(&furnace));
             }
             Err(refusal) => {
                 let rounds = furnace.rounds;
@@ -230,7 +259,7 @@ fn solves_agree_with_the_list_of_rivals() {
             }
         }
     }
-    let counts = [proved, late, impossible, open];
+    let counts = [proved, late, impossible, open, late_ramps, impossible_ramps];
     assert!(counts.iter().all(|count| *count > 50), "{counts:?}");
 }
 

@@ -2,7 +2,7 @@
 
 mod tapes;
 
-use reference::cases::{expect, read_numbers};
+use reference::cases::{expect, read_numbers, reference_numbers};
 use reference::read;
 use tapes::*;
 
@@ -67,6 +67,29 @@ fn read_line_has_all_places() {
 }
 
 #[test]
+fn steps_line_has_all_places() {
+    // Column 0 with 30's r and 0 in its two steps, column 3 with −1 and 1000.
+    let front = format!("{PAIR_FRONT} 31 03 01 E8 03 31 00 00 14 00 31 03 00 FF FF 31 00 01 00 00");
+    let numbers = reference_numbers(&read(&with_search(&front, 3, 7, 9)).unwrap());
+    let mut expected = vec![0; 240];
+    // Step k of column c at 12c + k, its mark at 120 + 12c + k.
+    (expected[0], expected[36], expected[37]) = (20, -1, 1000);
+    for mark in [120, 121, 156, 157] {
+        expected[mark] = 1;
+    }
+    assert_eq!(numbers, expected);
+    let words: Vec<String> = expected.iter().map(|number| number.to_string()).collect();
+    let cases = format!(
+        "steps {front} 50 03 00 07 00 09 00 00 00 FF\n\
+         steps {front} 50 03 00 07 00 09 00 00 00\n\
+         steps\n"
+    );
+    // 4 + 25 + 6 + 36 + 8 bytes of the pair, 20 of commands 31, 9 of command 50.
+    let lines = format!("steps {}\nrefused 1 108\nrefused 1 0\n", words.join(" "));
+    assert_eq!(expect(&cases).unwrap(), lines);
+}
+
+#[test]
 fn whole_numbers() {
     let cases = "quotient -1 2 / 1 2 / -9223372036854775808 9223372036854775807\n\
         limit -4 -3 9 / 10 -3 9 / 5 -3 9\n\
@@ -89,6 +112,7 @@ fn texts_that_are_no_cases() {
         "read 1g",
         "read +1",
         "read 10 / 1",
+        "steps 10 / 1",
         "judge 10 / 1",
         "show 10",
         "show 10 / 1.5",

@@ -323,6 +323,7 @@ fn read_gives_each_number() {
         b: vec![vec![4096, 0], vec![0, 4096]],
         drift: vec![0, 8192],
         columns: vec![column(20, 1), column(25, 2), column(0, 3), column(1, 4)],
+        curves: vec![None; 4],
         start: vec![10, 20],
         step_size: 3,
         rounds: 10_000,

@@ -1,6 +1,6 @@
 //! What must hold of every generated case.
 
-use reference::generate::{case, tape, Case, Kind};
+use reference::generate::{case, commands, tape, Case, Kind, Random};
 use reference::model::{cost, follows_tape};
 use reference::rounds::{Candidate, Ending, Round};
 use reference::*;
@@ -43,7 +43,7 @@ fn kinds_meant_to_be_accepted_are() {
             longest = longest.max(tape.bytes.len());
         }
     }
-    assert_eq!(longest, 464);
+    assert_eq!(longest, 1_064);
 }
 
 #[test]
@@ -116,6 +116,50 @@ fn shown_and_accepted_exclude_each_other() {
         let shown = multipliers.filter(|lent| judge_multipliers(tape, &lent.multipliers).is_ok());
         assert!(accepted.count() == 0 || shown.count() == 0, "seed {seed}");
     }
+}
+
+/// The furnace with curves that hold the references of command 30 on some of its columns that have
+/// none, and another r there.
+fn hold_as_curve(furnace: &Furnace, random: &mut Random) -> Furnace {
+    let mut curved = furnace.clone();
+    for c in 0..furnace.columns.len() {
+        if furnace.curves[c].is_none() && !random.one_in(3) {
+            let hold = furnace.columns[c].reference;
+            curved.curves[c] = Some(vec![hold; furnace.horizon]);
+            curved.columns[c].reference = random.between(-20_000, 20_000);
+        }
+    }
+    curved
+}
+
+#[test]
+fn a_curve_equal_to_the_hold_answers_as_the_hold() {
+    let mut random = Random::new(7);
+    let mut changed = 0;
+    for seed in 0..600 {
+        let case = case(seed);
+        let Ok(furnace) = read(&case.tape.bytes) else {
+            continue;
+        };
+        let curved = hold_as_curve(&furnace, &mut random);
+        changed += u32::from(curved != furnace);
+        let tape = commands::of_furnace(&curved, &mut random).concat();
+        assert_eq!(read(&tape), Ok(curved), "seed {seed}");
+        for lent in &case.judged {
+            let (plan, multipliers) = (&lent.plan, &lent.multipliers);
+            let judged = |tape: &[u8]| {
+                (
+                    judge_plan(tape, plan, multipliers),
+                    judge_multipliers(tape, multipliers),
+                )
+            };
+            assert_eq!(judged(&tape), judged(&case.tape.bytes), "seed {seed}");
+        }
+        let mut with_curves = case.clone();
+        with_curves.tape.bytes = tape;
+        assert_eq!(solved(&with_curves), solved(&case), "seed {seed}");
+    }
+    assert!(changed > 300, "{changed}");
 }
 
 /// Checks one round against what the paper says of it, in ways other than the rounds' own.
@@ -194,5 +238,9 @@ fn few_seeds_lead_to_every_answer() {
     }
     for answer in ["shown", "refused 12", "refused 14"] {
         assert!(counts.count("judge multipliers", answer) > 0, "{answer}");
+    }
+    for number in 4..=7 {
+        let name = format!("refused {number}");
+        assert!(counts.count(count::STEPS, &name) > 0, "{name} for a 31");
     }
 }

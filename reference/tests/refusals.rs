@@ -1,36 +1,12 @@
 //! Each refusal, in several places, and two refusals at once.
 
+mod refused;
 mod tapes;
 
 use reference::generate::commands;
-use reference::model::Column;
 use reference::*;
+use refused::*;
 use tapes::*;
-
-/// Every call and the slip give the tape's refusal, whatever the lengths of the slices.
-#[track_caller]
-fn refused(tape: &[u8], number: u32, offset: usize) {
-    let refusal = read(tape).expect_err("a refusal");
-    assert_eq!(
-        (refusal.number(), refusal.carried()),
-        (number, Some(offset))
-    );
-    assert_eq!(judge_plan(tape, &[], &[]), Err(refusal));
-    assert_eq!(judge_multipliers(tape, &[i32::MAX]), Err(refusal));
-    let (mut plan, mut multipliers) = ([1, 2, 3], [4]);
-    let solved = solve(tape, &mut plan, &mut multipliers);
-    assert_eq!(solved, Err(refusal));
-    assert_eq!((plan, multipliers), ([1, 2, 3], [4]));
-    assert_eq!(slip(tape), format!("refused {number} at {offset}\n"));
-}
-
-/// [`refused`] for a list of tapes that are given after `front`.
-#[track_caller]
-fn all_refused(front: &str, number: u32, list: &[(&str, usize)]) {
-    for (rest, offset) in list {
-        refused(&hex(&format!("{front} {rest}")), number, *offset);
-    }
-}
 
 /// One state, one input, one step: 4 bytes.
 const ONE: &str = "10 01 01 01";
@@ -105,7 +81,7 @@ fn refusal_2_unknown() {
         2,
         &[("00", 0), ("11", 0), ("FE FF", 0), ("01 01 01 01", 0)],
     );
-    all_refused(ONE, 2, &[("23", 4), ("00 FF", 4), ("40 00 64 00 31", 8)]);
+    all_refused(ONE, 2, &[("23", 4), ("00 FF", 4), ("40 00 64 00 32", 8)]);
     all_refused(
         F_FRONT,
         2,
@@ -316,36 +292,9 @@ fn refusal_8_overrun() {
     refused(&long, 8, length);
 }
 
-/// All 10 columns, all entries, all starts: the longest accepted tape for these sizes.
-fn full_tape(states: usize, inputs: usize, horizon: usize) -> Vec<u8> {
-    let column = Column {
-        lo: -20_000,
-        hi: 20_000,
-        reference: -20_000,
-        weight: 255,
-    };
-    let mut tape = vec![commands::size(states, inputs, horizon)];
-    for i in 0..states {
-        for j in 0..states {
-            tape.push(commands::state_entry(i, j, -16_384));
-        }
-        for j in 0..inputs {
-            tape.push(commands::input_entry(i, j, 16_384));
-        }
-        tape.push(commands::drift(i, -16_777_216));
-        tape.push(commands::start(i, 20_000));
-    }
-    for place in 0..states + inputs {
-        tape.push(commands::column(place, &column));
-    }
-    tape.push(commands::search(65_535, 10_000, 0xffff_ffff));
-    tape.push(vec![0xff]);
-    tape.concat()
-}
-
 #[test]
-fn longest_tape() {
-    let tape = full_tape(6, 4, 12);
+fn longest_tape_without_curves() {
+    let tape = full_commands().concat();
     assert_eq!(tape.len(), 464);
     let furnace = read(&tape).unwrap();
     assert_eq!(furnace.plan_length(), 120);

@@ -1,4 +1,4 @@
-// Cases of the test programs: a line each, `read HEX`, `judge HEX / numbers / numbers`,
+// Cases of the test programs: a line each, `read HEX`, `steps HEX`, `judge HEX / numbers / numbers`,
 // `show HEX / numbers` or `solve HEX / numbers / numbers`, as the second program takes them. What
 // follows a # is passed over.
 use tape::refusal::Carried;
@@ -13,7 +13,7 @@ pub struct Case {
     pub comment: bool,
     pub field: usize,
     pub digits: usize,
-    pub tape: [u8; 512],
+    pub tape: [u8; 1536],
     pub figure: u64,
     pub negative: bool,
     pub open: bool,
@@ -24,7 +24,7 @@ pub struct Case {
 
 impl Case {
     pub fn new() -> Case {
-        let tape = [0u8; 512];
+        let tape = [0u8; 1536];
         let counts = [0usize; 2];
         let none = [0i32; 160];
         Case {
@@ -53,7 +53,7 @@ impl Case {
                 case.comment = true;
                 case
             }
-            b'r' | b'j' | b'h' | b'v' => {
+            b'r' | b'p' | b'j' | b'h' | b'v' => {
                 case.kind = c;
                 case
             }
@@ -91,7 +91,7 @@ impl Case {
     // One hexadecimal digit of the tape more.
     fn with_digit(mut self, d: u8) -> Case {
         let digits = self.digits;
-        if 1024 <= digits {
+        if 3072 <= digits {
             return self;
         }
         let at = digits / 2;

@@ -10,10 +10,10 @@ use Rattle.integer.specs.Operand.{operand}
 use Rattle.integer.proofs.Operand.{operand-front}
 use Rattle.commands.specs.declared.Command.{Command}
 use Rattle.commands.specs.declared.Entry.{Entry}
-use Rattle.commands.specs.declared.Entry.the-variants.{State, Input, Drift, Column, Start, Rounds}
-use Rattle.commands.specs.Format.{whole, sizeCommand, stateCommand, inputCommand, driftCommand, columnCommand, startCommand, roundsCommand, decoded}
+use Rattle.commands.specs.declared.Entry.the-variants.{State, Input, Drift, Column, Reference, Start, Rounds}
+use Rattle.commands.specs.Format.{whole, sizeCommand, stateCommand, inputCommand, driftCommand, columnCommand, referenceCommand, startCommand, roundsCommand, decoded}
 use Rattle.commands.specs.Format.{bytesOf, placeOf}
-use Rattle.commands.specs.Marks.{driftPlace, columnPlace, startPlace, roundsPlace, placeCount, bytesAt, longestBytes, mostBytes, decidingBytes}
+use Rattle.commands.specs.Marks.{driftPlace, columnPlace, startPlace, roundsPlace, referencePlace, placeCount, bytesAt, longestBytes, mostBytes, decidingBytes}
 use Rattle.commands.proofs.Tests.{Inside}
 
 -- ---- A command's place and its bytes
@@ -23,6 +23,7 @@ place-below (State i j v) h = omega arith
 place-below (Input i j v) h = omega arith
 place-below (Drift i v) h = omega arith
 place-below (Column c lo hi r w) h = omega arith
+place-below (Reference c k r) h = omega arith
 place-below (Start i v) h = omega arith
 place-below (Rounds g rounds t) h = omega arith
 
@@ -31,6 +32,7 @@ some-bytes (State i j v) = omega arith
 some-bytes (Input i j v) = omega arith
 some-bytes (Drift i v) = omega arith
 some-bytes (Column c lo hi r h) = omega arith
+some-bytes (Reference c k r) = omega arith
 some-bytes (Start i v) = omega arith
 some-bytes (Rounds g rounds t) = omega arith
 
@@ -41,6 +43,15 @@ bytes-at (Input i j v) h = rw (lt-ltb (placeOf (Input i j v)) driftPlace (omega 
 bytes-at (Drift i v) h = rw (le-ltb (driftPlace + i) driftPlace (omega arith), lt-ltb (driftPlace + i) columnPlace (omega arith))
 bytes-at (Column c lo hi r w) h =
     rw (le-ltb (columnPlace + c) driftPlace (omega arith), le-ltb (columnPlace + c) columnPlace (omega arith), lt-ltb (columnPlace + c) startPlace (omega arith))
+bytes-at (Reference c k r) h =
+    let at-least : referencePlace ≤ placeOf (Reference c k r) = omega arith in
+    rw (
+      le-ltb (placeOf (Reference c k r)) driftPlace (omega arith),
+      le-ltb (placeOf (Reference c k r)) columnPlace (omega arith),
+      le-ltb (placeOf (Reference c k r)) startPlace (omega arith),
+      le-ltb (placeOf (Reference c k r)) roundsPlace (omega arith),
+      le-ltb (placeOf (Reference c k r)) referencePlace (omega arith),
+    )
 bytes-at (Start i v) h =
     rw (
       le-ltb (startPlace + i) driftPlace (omega arith),
@@ -50,7 +61,7 @@ bytes-at (Start i v) h =
     )
 bytes-at (Rounds g rounds t) h = refl
 
-pub deciding-bytes : decidingBytes ≡ 472
+pub deciding-bytes : decidingBytes ≡ 1072
 unfolding decidingBytes mostBytes sumℕ bytesAt
 deciding-bytes = refl
 
@@ -93,6 +104,10 @@ module _ (xs ys : List ℕ) (at : ℕ) (room : at + longestBytes ≤ length xs) 
         operand-same 1 8 (omega arith),
       ))
 
+  reference-same : referenceCommand (xs ++ ys) at ≡ referenceCommand xs at
+  unfolding referenceCommand
+  reference-same = whole-same 4 (omega arith) (rw (operand-same 1 1 (omega arith), operand-same 1 2 (omega arith), operand-same 2 3 (omega arith)))
+
   start-same : startCommand (xs ++ ys) at ≡ startCommand xs at
   unfolding startCommand
   start-same = whole-same 3 (omega arith) (rw (operand-same 1 1 (omega arith), operand-same 2 2 (omega arith)))
@@ -104,4 +119,4 @@ module _ (xs ys : List ℕ) (at : ℕ) (room : at + longestBytes ≤ length xs) 
   pub decoded-front : decoded (xs ++ ys) at ≡ decoded xs at
   unfolding decoded
   decoded-front =
-      rw (List·getD-append xs ys 0 at (omega arith), size-same, state-same, input-same, drift-same, column-same, start-same, rounds-same)
+      rw (List·getD-append xs ys 0 at (omega arith), size-same, state-same, input-same, drift-same, column-same, reference-same, start-same, rounds-same)

@@ -1,7 +1,7 @@
 -- Laws about commands: one that is cut or whole, the indexes of an entry that is not beyond the size, and places that FF asks for.
 use Prim.Native.Nat.{ℕ, _+_, _-_, _<_, _≤_}
-use mathlib.Core.Path.{_≡_}
-use mathlib.Core.Bool.{true, false, _||_, or-true}
+use mathlib.Core.Path.{_≡_, ap}
+use mathlib.Core.Bool.{Bool, true, false, _||_, or-true}
 use mathlib.Core.List.{List, [], _∷_}
 use native.Mathlib.Omega.{arith}
 use lib.Dec.{leb}
@@ -11,9 +11,10 @@ use Rattle.integer.proofs.Tests.{none}
 use Rattle.commands.specs.declared.Command.{Command}
 use Rattle.commands.specs.declared.Command.the-variants.{Cut}
 use Rattle.commands.specs.declared.Entry.{Entry}
-use Rattle.commands.specs.declared.Entry.the-variants.{State, Input, Drift, Column, Start, Rounds}
-use Rattle.commands.specs.Format.{whole, beyond, among, required}
+use Rattle.commands.specs.declared.Entry.the-variants.{State, Input, Drift, Column, Reference, Start, Rounds}
+use Rattle.commands.specs.Format.{whole, beyond}
 use Rattle.commands.specs.Marks.{columnPlace, startPlace, roundsPlace}
+use Rattle.commands.specs.Required.{among, onCurve, required}
 use Rattle.commands.specs.Room.{SmallSizes}
 
 -- ---- A command of k operand bytes
@@ -31,6 +32,7 @@ Inside (State i j v) = (i < 6) × (j < 6)
 Inside (Input i j v) = (i < 6) × (j < 4)
 Inside (Drift i v) = i < 6
 Inside (Column c lo hi r h) = c < 10
+Inside (Reference c k r) = (c < 10) × (k < 12)
 Inside (Start i v) = i < 6
 Inside (Rounds g rounds t) = Unit {0}
 
@@ -40,16 +42,17 @@ inside n m horizon (State i j v) h e = let t = none (leb n i) (leb n j ∷ []) e
 inside n m horizon (Input i j v) h e = let t = none (leb n i) (leb m j ∷ []) e in omega (arith, leb-false)
 inside n m horizon (Drift i v) h e = omega (arith, leb-false n i e)
 inside n m horizon (Column c lo hi r w) h e = omega (arith, leb-false (n + m) c e)
+inside n m horizon (Reference c k r) h e = let t = none (leb (n + m) c) (leb horizon k ∷ []) e in omega (arith, leb-false)
 inside n m horizon (Start i v) h e = omega (arith, leb-false n i e)
 inside n m horizon (Rounds g rounds t) h e = tt
 
 -- ---- What FF asks for
 
-pub required-column : (n m horizon c : ℕ) → c < n + m → required n m horizon (columnPlace + c) ≡ true
-unfolding required among
-required-column n m horizon c h =
-    rw (le-leb columnPlace (columnPlace + c) (omega arith), lt-ltb (columnPlace + c - columnPlace) (n + m) (omega arith))
+module _ (n m horizon : ℕ) (given : List Bool) where
+  pub required-column : (c : ℕ) → c < n + m → required n m horizon given (columnPlace + c) ≡ true
+  unfolding required among
+  required-column c h = rw (le-leb columnPlace (columnPlace + c) (omega arith), lt-ltb (columnPlace + c - columnPlace) (n + m) (omega arith))
 
-pub required-rounds : (n m horizon : ℕ) → required n m horizon roundsPlace ≡ true
-unfolding required among
-required-rounds n m horizon = or-true (among columnPlace (n + m) roundsPlace || among startPlace n roundsPlace)
+  pub required-rounds : required n m horizon given roundsPlace ≡ true
+  unfolding required among
+  required-rounds = ap (λ (b : Bool). b || onCurve n m horizon given roundsPlace) (or-true (among columnPlace (n + m) roundsPlace || among startPlace n roundsPlace))

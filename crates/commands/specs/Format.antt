@@ -1,6 +1,6 @@
--- Document 01, "Tape commands": its table, line by line.
-use Prim.Native.Nat.{ℕ, _+_, _-_, _*_}
-use mathlib.Core.Bool.{Bool, false, cond, _&&_, _||_}
+-- Document 01, "Tape commands": its table, line by line; and command 31 of document 02, request 1.
+use Prim.Native.Nat.{ℕ, _+_, _*_}
+use mathlib.Core.Bool.{Bool, false, cond, _||_}
 use mathlib.Core.List.{List}
 use lib.Dec.{eqb, ltb, leb}
 use lib.ListN.{length, getD}
@@ -11,9 +11,9 @@ use Rattle.integer.specs.Tests.{outside}
 use Rattle.commands.specs.declared.Command.{Command}
 use Rattle.commands.specs.declared.Command.the-variants.{Unknown, Cut, Size, Give, End}
 use Rattle.commands.specs.declared.Entry.{Entry}
-use Rattle.commands.specs.declared.Entry.the-variants.{State, Input, Drift, Column, Start, Rounds}
+use Rattle.commands.specs.declared.Entry.the-variants.{State, Input, Drift, Column, Reference, Start, Rounds}
 use Rattle.commands.specs.Ranges.{mostEntry, mostDrift, mostNumber, mostWeight, mostRounds, exceeding}
-use Rattle.commands.specs.Marks.{statePlace, inputPlace, driftPlace, columnPlace, startPlace, roundsPlace}
+use Rattle.commands.specs.Marks.{statePlace, inputPlace, driftPlace, columnPlace, startPlace, roundsPlace, referencePlace}
 
 -- ---- Byte and operands. A command that has not all of its operands is cut
 
@@ -49,6 +49,10 @@ columnCommand s at =
     whole 8 s at
     (Give (Column (unsignedAt 1 s (at + 1)) (signedAt 2 s (at + 2)) (signedAt 2 s (at + 4)) (signedAt 2 s (at + 6)) (pos (unsignedAt 1 s (at + 8)))))
 
+-- column, step, reference: 2 signed
+unfoldable pub referenceCommand : List ℕ → ℕ → Command
+referenceCommand s at = whole 4 s at (Give (Reference (unsignedAt 1 s (at + 1)) (unsignedAt 1 s (at + 2)) (signedAt 2 s (at + 3))))
+
 -- i, value: 2 signed
 unfoldable pub startCommand : List ℕ → ℕ → Command
 startCommand s at = whole 3 s at (Give (Start (unsignedAt 1 s (at + 1)) (signedAt 2 s (at + 2))))
@@ -65,10 +69,11 @@ decoded s at =
     (cond (eqb byte 0x21) (inputCommand s at)
     (cond (eqb byte 0x22) (driftCommand s at)
     (cond (eqb byte 0x30) (columnCommand s at)
+    (cond (eqb byte 0x31) (referenceCommand s at)
     (cond (eqb byte 0x40) (startCommand s at)
     (cond (eqb byte 0x50) (roundsCommand s at)
     (cond (eqb byte 0xFF) End
-    Unknown)))))))
+    Unknown))))))))
 
 -- the command byte and its operands
 abbrev pub bytesOf : Entry → ℕ
@@ -76,6 +81,7 @@ bytesOf (State i j v) = 5
 bytesOf (Input i j v) = 5
 bytesOf (Drift i v) = 6
 bytesOf (Column c lo hi r h) = 9
+bytesOf (Reference c k r) = 5
 bytesOf (Start i v) = 4
 bytesOf (Rounds g rounds t) = 9
 
@@ -91,6 +97,7 @@ beyond n m horizon (State i j v) = leb n i || leb n j
 beyond n m horizon (Input i j v) = leb n i || leb m j
 beyond n m horizon (Drift i v) = leb n i
 beyond n m horizon (Column c lo hi r h) = leb (n + m) c
+beyond n m horizon (Reference c k r) = leb (n + m) c || leb horizon k
 beyond n m horizon (Start i v) = leb n i
 beyond n m horizon (Rounds g rounds t) = false
 
@@ -106,24 +113,17 @@ wrong (State i j v) = exceeding mostEntry v
 wrong (Input i j v) = exceeding mostEntry v
 wrong (Drift i v) = exceeding mostDrift v
 wrong (Column c lo hi r h) = wrongColumn lo hi r h
+wrong (Reference c k r) = exceeding mostNumber r
 wrong (Start i v) = exceeding mostNumber v
 wrong (Rounds g rounds t) = ltZ g (pos 1) || ltb rounds 1 || ltb mostRounds rounds
 
--- ---- What is given
+-- ---- The place whose mark the entry sets
 
--- the place whose mark the entry sets
 abbrev pub placeOf : Entry → ℕ
 placeOf (State i j v) = statePlace + (6 * i + j)
 placeOf (Input i j v) = inputPlace + (4 * i + j)
 placeOf (Drift i v) = driftPlace + i
 placeOf (Column c lo hi r h) = columnPlace + c
+placeOf (Reference c k r) = referencePlace + (12 * c + k)
 placeOf (Start i v) = startPlace + i
 placeOf (Rounds g rounds t) = roundsPlace
-
--- one of the count places from p on
-unfoldable pub among : ℕ → ℕ → ℕ → Bool
-among p count place = leb p place && ltb (place - p) count
-
--- what FF asks for: every column, every start value and command 50
-unfoldable pub required : ℕ → ℕ → ℕ → ℕ → Bool
-required n m horizon place = among columnPlace (n + m) place || among startPlace n place || among roundsPlace 1 place

@@ -2,4 +2,5 @@
 pub mod Ranges
 pub mod Marks
 pub mod Format
+pub mod Required
 pub mod Room

@@ -1,7 +1,9 @@
 -- Where the marks stand: a mark for each place that a command can give; and the bytes that these commands take.
 use Prim.Native.Nat.{ℕ, _+_}
-use mathlib.Core.Bool.{cond}
+use mathlib.Core.Bool.{Bool, false, cond}
+use mathlib.Core.List.{List}
 use lib.Dec.{ltb}
+use lib.ListN.{getD}
 use Rattle.integer.specs.Sum.{sumℕ}
 
 -- A, row by row at a stride of 6
@@ -28,8 +30,16 @@ startPlace = 76
 abbrev pub roundsPlace : ℕ
 roundsPlace = 82
 
+-- the references by step, column by column at a stride of 12
+abbrev pub referencePlace : ℕ
+referencePlace = 83
+
 abbrev pub placeCount : ℕ
-placeCount = 83
+placeCount = 203
+
+-- the mark of a place that has been given
+abbrev pub marked : List Bool → ℕ → Bool
+marked given place = getD given place false
 
 -- ---- Bytes
 
@@ -43,7 +53,8 @@ bytesAt place =
     cond (ltb place driftPlace) 5
     (cond (ltb place columnPlace) 6
     (cond (ltb place startPlace) 9
-    (cond (ltb place roundsPlace) 4 9)))
+    (cond (ltb place roundsPlace) 4
+    (cond (ltb place referencePlace) 9 5))))
 
 -- the longest command
 abbrev pub longestBytes : ℕ

@@ -1,17 +1,19 @@
 // The commands of a tape: their bytes, their operands and the tests of document 01's table.
 pub mod mark;
 pub mod range;
+pub mod required;
 
 ghost use Prim.Native.Nat.{_+_, _<_};
 ghost use mathlib.Core.Path.{_≡_};
 ghost use mathlib.Core.Bool.{false};
 ghost use lib.ListN.{length};
-ghost use Rattle.commands.specs.Format.{sizeCommand, stateCommand, inputCommand, driftCommand, columnCommand, startCommand, roundsCommand, decoded, wrongSize, wrongColumn, beyond, wrong, placeOf, among, required, bytesOf};
+ghost use Rattle.commands.specs.Format.{sizeCommand, stateCommand, inputCommand, driftCommand, columnCommand, referenceCommand, startCommand, roundsCommand, decoded, wrongSize, wrongColumn, beyond, wrong, placeOf, bytesOf};
 ghost use Rattle.commands.specs.Marks.{placeCount};
 ghost use Rattle.commands.specs.Room.{Room, SmallSizes};
 use crate::mark::COLUMN_PLACE;
 use crate::mark::DRIFT_PLACE;
 use crate::mark::INPUT_PLACE;
+use crate::mark::REFERENCE_PLACE;
 use crate::mark::ROUNDS_PLACE;
 use crate::mark::START_PLACE;
 use crate::mark::STATE_PLACE;
@@ -36,6 +38,7 @@ pub enum Entry {
     Input(usize, usize, i64),
     Drift(usize, i64),
     Column(usize, i64, i64, i64, i64),
+    Reference(usize, usize, i64),
     Start(usize, i64),
     Rounds(i64, usize, i64),
 }
@@ -60,6 +63,7 @@ pub fn decode(s: &[u8], at: usize) -> Command
         0x21 => input_entry(s, at),
         0x22 => drift(s, at),
         0x30 => column(s, at),
+        0x31 => reference(s, at),
         0x40 => start(s, at),
         0x50 => rounds(s, at),
         0xFF => Command::End,
@@ -124,6 +128,16 @@ fn column(s: &[u8], at: usize) -> Command
     ))
 }
 
+fn reference(s: &[u8], at: usize) -> Command
+    requires { ⌜ at < length (now s) ⌝ }
+    ensures { λ r. ⌜ (r ≡ referenceCommand (now (s .entry)) at) × Room at (length (now (s .entry))) r ⌝ }
+{
+    if s.len() - at <= 4 {
+        return Command::Cut;
+    }
+    Command::Give(Entry::Reference(u8_at(s, at + 1), u8_at(s, at + 2), i16_at(s, at + 3)))
+}
+
 fn start(s: &[u8], at: usize) -> Command
     requires { ⌜ at < length (now s) ⌝ }
     ensures { λ r. ⌜ (r ≡ startCommand (now (s .entry)) at) × Room at (length (now (s .entry))) r ⌝ }
@@ -173,6 +187,7 @@ pub fn is_beyond(entry: Entry, n: usize, m: usize, horizon: usize) -> bool
         Entry::Input(i, j, _) => n <= i || m <= j,
         Entry::Drift(i, _) => n <= i,
         Entry::Column(c, _, _, _, _) => n + m <= c,
+        Entry::Reference(c, k, _) => n + m <= c || horizon <= k,
         Entry::Start(i, _) => n <= i,
         Entry::Rounds(_, _, _) => false,
     }
@@ -192,6 +207,7 @@ pub fn is_wrong(entry: Entry) -> bool
             reference,
             weight,
         ),
+        Entry::Reference(_, _, v) => is_outside(v, LEAST_NUMBER, MOST_NUMBER),
         Entry::Start(_, v) => is_outside(v, LEAST_NUMBER, MOST_NUMBER),
         Entry::Rounds(gain, rounds, _) => gain < 1 || rounds < 1 || MOST_ROUNDS < rounds,
     }
@@ -207,26 +223,10 @@ pub fn place_of(entry: Entry, n: usize, m: usize, horizon: usize) -> usize
         Entry::Input(i, j, _) => INPUT_PLACE + (4 * i + j),
         Entry::Drift(i, _) => DRIFT_PLACE + i,
         Entry::Column(c, _, _, _, _) => COLUMN_PLACE + c,
+        Entry::Reference(c, k, _) => REFERENCE_PLACE + (12 * c + k),
         Entry::Start(i, _) => START_PLACE + i,
         Entry::Rounds(_, _, _) => ROUNDS_PLACE,
     }
-}
-
-// Whether the place is one of the count places from p on.
-fn is_among(place: usize, p: usize, count: usize) -> bool
-    ensures { λ r. ⌜ r ≡ among p count place ⌝ }
-{
-    p <= place && place - p < count
-}
-
-// Test 7 asks for the marks of these places.
-pub fn is_required(place: usize, n: usize, m: usize, horizon: usize) -> bool
-    requires { ⌜ SmallSizes n m horizon ⌝ }
-    ensures { λ r. ⌜ r ≡ required n m horizon place ⌝ }
-{
-    is_among(place, COLUMN_PLACE, n + m)
-        || is_among(place, START_PLACE, n)
-        || is_among(place, ROUNDS_PLACE, 1)
 }
 
 // How many bytes the command takes.
@@ -238,6 +238,7 @@ pub fn bytes_of(entry: Entry) -> usize
         Entry::Input(_, _, _) => 5,
         Entry::Drift(_, _) => 6,
         Entry::Column(_, _, _, _, _) => 9,
+        Entry::Reference(_, _, _) => 5,
         Entry::Start(_, _) => 4,
         Entry::Rounds(_, _, _) => 9,
     }

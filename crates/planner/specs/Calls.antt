@@ -1,6 +1,7 @@
 -- The exported calls: the number that each returns, and what it leaves in `out`.
 use Prim.Native.Nat.{ℕ, _+_, _*_}
-use mathlib.Core.List.{List, [], _∷_, _++_}
+use mathlib.Core.Bool.{Bool, cond}
+use mathlib.Core.List.{List, [], _∷_, _++_, map}
 use lib.IntN.{ℤ, pos}
 use Rattle.tape.specs.declared.Answer.{Answer}
 use Rattle.tape.specs.declared.Answer.the-variants as answer
@@ -35,6 +36,21 @@ readCode (answer.Refused why) = codeOf why
 abbrev pub readLeft : Answer → Tape → List ℤ → List ℤ
 readLeft answer.Accepted t before = readNumbers t
 readLeft (answer.Refused why) t before = before
+
+-- ---- read references
+
+-- 1 for a mark
+abbrev pub markNumber : Bool → ℤ
+markNumber given = cond given (pos 1) (pos 0)
+
+-- The 240 numbers of a tape's curves: for column c and step k the reference of command 31 at 12c + k, 0 where there is none; its
+-- mark at 120 + 12c + k.
+abbrev pub referenceNumbers : Tape → List ℤ
+referenceNumbers t = t .curves .reference ++ map markNumber (t .curves .given)
+
+abbrev pub referencesLeft : Answer → Tape → List ℤ → List ℤ
+referencesLeft answer.Accepted t before = referenceNumbers t
+referencesLeft (answer.Refused why) t before = before
 
 -- ---- judge a plan
 

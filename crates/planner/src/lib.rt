@@ -1,27 +1,27 @@
-// The planner for other languages: the four calls of document 01 as C functions. Each returns 0 where
-// it has a result, and else the refusal's number + 256 times what it carries.
-ghost use Prim.Native.Nat.{_+_, _≤_};
+// The planner for other languages: the calls of document 01, and those that requests of document 02
+// added, as C functions. Each returns 0 where it has a result, and else the refusal's number + 256
+// times what it carries.
+mod numbers;
+
+ghost use Prim.Native.Nat.{_≤_};
 ghost use mathlib.Core.Path.{_≡_};
-ghost use mathlib.Core.List.{[], _∷_, _++_};
-ghost use lib.ListN.{length, take};
-ghost use lib.IntN.{pos};
 ghost use Rattle.commands.specs.Ranges.{mostRounds};
-ghost use Rattle.tape.specs.Legal.{Legal};
 ghost use Rattle.tape.specs.Reading.{reading};
 ghost use Rattle.tape.specs.Refusals.{row, figure};
 ghost use Rattle.judge.specs.Judging.{judged, shown};
 ghost use Rattle.solver.specs.Solving.{solving, answerOf, planLeft, multipliersLeft};
-ghost use Rattle.planner.specs.Calls.{codeOf, readNumbers, readCode, readLeft, judgedCode, judgedLeft, shownCode, solvedCode, solvedLeft};
+ghost use Rattle.planner.specs.Calls.{codeOf, readCode, readLeft, referencesLeft, judgedCode, judgedLeft, shownCode, solvedCode, solvedLeft};
 ghost use Rattle.planner.specs.Demand.{BackedBy, FoundedBy, UpheldBy, AgainBy, RoundsBy};
+use crate::numbers::numbers_of;
+use crate::numbers::proved_numbers;
+use crate::numbers::reference_numbers;
 use judge::Judged;
 use judge::Shown;
 use judge::judge_multipliers;
 use judge::judge_plan;
-use solver::Duties;
 use solver::Solved;
 use solver::solve;
 use tape::Answer;
-use tape::Tape;
 use tape::read;
 use tape::refusal::Refusal;
 use tape::refusal::figure;
@@ -38,6 +38,23 @@ pub extern "C" fn fibergravel_read(tape: &[u8], out: &mut [i64; 118]) -> u64
     match answer {
         Answer::Accepted => {
             *out = numbers_of(result.tape);
+            0
+        }
+        Answer::Refused(why) => code(why),
+    }
+}
+
+// Reads the references that a tape gives by step. `out` then holds them and their marks.
+#[no_mangle]
+pub extern "C" fn fibergravel_read_references(tape: &[u8], out: &mut [i64; 240]) -> u64
+    ensures { λ r. ⌜ r ≡ readCode (reading (now (tape .entry)) .answer) ⌝ }
+    ensures { λ _. ⌜ now (out .exit) ≡ referencesLeft (reading (now (tape .entry)) .answer) (reading (now (tape .entry)) .tape) (now (out .entry)) ⌝ }
+{
+    let result = read(tape);
+    let answer = result.answer;
+    match answer {
+        Answer::Accepted => {
+            *out = reference_numbers(result.tape);
             0
         }
         Answer::Refused(why) => code(why),
@@ -114,51 +131,4 @@ fn code(why: Refusal) -> u64
     ensures { λ r. ⌜ r ≡ codeOf why ⌝ }
 {
     (number(why) + 256 * figure(why)) as u64
-}
-
-// Puts numbers into `out` from a place on.
-fn put(out: &mut [i64; 118], first: usize, from: &[i64])
-    requires { ⌜ (length (now out) ≡ 118) × (first + length (now from) ≤ 118) ⌝ }
-    ensures { λ _. ⌜ (take (first + length (now (from .entry))) (now (out .exit)) ≡ take first (now (out .entry)) ++ now (from .entry)) × (length (now (out .exit)) ≡ 118) ⌝ }
-{
-    let mut j: usize = 0;
-    while j < from.len() {
-        out[first + j] = from[j];
-        j += 1;
-    }
-}
-
-fn numbers_of(t: Tape) -> [i64; 118]
-    requires { ⌜ Legal t ⌝ }
-    ensures { λ r. ⌜ r ≡ readNumbers t ⌝ }
-{
-    let mut out = [0i64; 118];
-    let sizes = [t.n as i64, t.m as i64, t.horizon as i64];
-    let rounds = [t.gain, t.rounds as i64, t.wanted];
-    put(&mut out, 0, &sizes);
-    put(&mut out, 3, &t.a);
-    put(&mut out, 39, &t.b);
-    put(&mut out, 63, &t.drift);
-    put(&mut out, 69, &t.low);
-    put(&mut out, 79, &t.high);
-    put(&mut out, 89, &t.reference);
-    put(&mut out, 99, &t.weight);
-    put(&mut out, 109, &t.start);
-    put(&mut out, 115, &rounds);
-    out
-}
-
-fn proved_numbers(rounds: usize, gap: i64, first: Duties) -> [i64; 7]
-    requires { ⌜ rounds ≤ mostRounds ⌝ }
-    ensures { λ r. ⌜ r ≡ pos 1 ∷ pos rounds ∷ gap ∷ first .u0 ∷ first .u1 ∷ first .u2 ∷ first .u3 ∷ [] ⌝ }
-{
-    [
-        1,
-        rounds as i64,
-        gap,
-        first.u0 as i64,
-        first.u1 as i64,
-        first.u2 as i64,
-        first.u3 as i64,
-    ]
 }

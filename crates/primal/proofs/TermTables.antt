@@ -1,18 +1,22 @@
 -- The tables of a tape's terms: what stands at each padded place, and that every term is in document 01's ranges.
 use Prim.Native.Nat.{ℕ, _+_, _*_, _-_, _/_, _%_, _<_, _≤_}
-use mathlib.Core.Path.{_≡_, _∙_, ap, subst, subst⁻¹}
+use mathlib.Core.Path.{_≡_, sym, _∙_, subst, subst⁻¹}
 use mathlib.Core.Logic.{_⊎_, inl, inr}
 use mathlib.Core.List.{List}
 use native.Mathlib.Omega.{arith}
-use native.Mathlib.Nat.{div-add-mod, mod-lt, mod-eq-of-lt, mul-add-mod-self-left}
+use native.Mathlib.Nat.{div-add-mod, mod-lt}
 use lib.ListN.{replicate}
-use lib.IntN.{ℤ, pos, _*ℤ_}
+use lib.IntN.{ℤ, pos, natAbs, _*ℤ_}
 use borrow.Author.Tests.{lt-ltb, le-ltb}
-use Rattle.integer.specs.Places.{at, Stretch}
+use Rattle.integer.specs.Places.{at, Stretch, Steps}
 use Rattle.integer.proofs.Order.{order, le→}
 use Rattle.integer.proofs.Parts.{times}
 use Rattle.integer.proofs.Places.{lt-or-le, fill-at}
+use Rattle.integer.proofs.Tests.{by-test}
+use Rattle.commands.specs.Ranges.{mostNumber}
+use Rattle.commands.specs.Marks.{marked}
 use Rattle.tape.specs.declared.Tape.{Tape}
+use Rattle.tape.specs.Tape.{referenceAt}
 use Rattle.tape.specs.Legal.{Legal}
 use Rattle.problem.specs.Model.{Term, columnTerm}
 use Rattle.primal.specs.Padded.{termOf, termAt}
@@ -20,24 +24,34 @@ use Rattle.primal.specs.Ranges.{Ranged}
 use Rattle.primal.specs.Terms.{placed, blankTerm, TermsOf}
 use Rattle.primal.proofs.ProductSizes.{size-units}
 
--- ---- A column's number at place c of a step
+-- ---- A row's number at place c of a step
 
 module _ (n m c : ℕ) where
-  pub placed-input : c < 4 → c < m → (column : List ℤ) (blank : ℤ) → placed column n m blank c ≡ at column (n + c)
+  pub placed-input : c < 4 → c < m → (number : ℕ → ℤ) (blank : ℤ) → placed number n m blank c ≡ number (n + c)
   unfolding placed
-  placed-input h k column blank = rw (lt-ltb c 4 h, lt-ltb c m k)
+  placed-input h k number blank = rw (lt-ltb c 4 h, lt-ltb c m k)
 
-  pub placed-no-input : c < 4 → m ≤ c → (column : List ℤ) (blank : ℤ) → placed column n m blank c ≡ blank
+  pub placed-no-input : c < 4 → m ≤ c → (number : ℕ → ℤ) (blank : ℤ) → placed number n m blank c ≡ blank
   unfolding placed
-  placed-no-input h k column blank = rw (lt-ltb c 4 h, le-ltb c m k)
+  placed-no-input h k number blank = rw (lt-ltb c 4 h, le-ltb c m k)
 
-  pub placed-state : 4 ≤ c → c - 4 < n → (column : List ℤ) (blank : ℤ) → placed column n m blank c ≡ at column (c - 4)
+  pub placed-state : 4 ≤ c → c - 4 < n → (number : ℕ → ℤ) (blank : ℤ) → placed number n m blank c ≡ number (c - 4)
   unfolding placed
-  placed-state h k column blank = rw (le-ltb c 4 h, lt-ltb (c - 4) n k)
+  placed-state h k number blank = rw (le-ltb c 4 h, lt-ltb (c - 4) n k)
 
-  pub placed-no-state : 4 ≤ c → n ≤ c - 4 → (column : List ℤ) (blank : ℤ) → placed column n m blank c ≡ blank
+  pub placed-no-state : 4 ≤ c → n ≤ c - 4 → (number : ℕ → ℤ) (blank : ℤ) → placed number n m blank c ≡ blank
   unfolding placed
-  placed-no-state h k column blank = rw (le-ltb c 4 h, le-ltb (c - 4) n k)
+  placed-no-state h k number blank = rw (le-ltb c 4 h, le-ltb (c - 4) n k)
+
+-- where the sizes fit, only numbers of columns count
+pub placed-same : (n m c : ℕ) (f g : ℕ → ℤ) (blank : ℤ) → n ≤ 6 → m ≤ 4 → ((q : ℕ) → q < 10 → f q ≡ g q) → placed f n m blank c ≡ placed g n m blank c
+placed-same n m c f g blank a b e = go (lt-or-le c 4) (lt-or-le c m) (lt-or-le (c - 4) n)
+  where
+    go : (c < 4) ⊎ (4 ≤ c) → (c < m) ⊎ (m ≤ c) → (c - 4 < n) ⊎ (n ≤ c - 4) → placed f n m blank c ≡ placed g n m blank c
+    go (inl x) (inl y) z = placed-input n m c x y f blank ∙ e (n + c) (omega arith) ∙ sym (placed-input n m c x y g blank)
+    go (inl x) (inr y) z = placed-no-input n m c x y f blank ∙ sym (placed-no-input n m c x y g blank)
+    go (inr x) y (inl z) = placed-state n m c x z f blank ∙ e (c - 4) (omega arith) ∙ sym (placed-state n m c x z g blank)
+    go (inr x) y (inr z) = placed-no-state n m c x z f blank ∙ sym (placed-no-state n m c x z g blank)
 
 -- ---- Ranges
 
@@ -51,52 +65,48 @@ ranged-blank = record {
   ordered = omega (arith, order);
 }
 
+size-reference : (t : Tape) → Legal t → (column k : ℕ) → natAbs (referenceAt t column k) ≤ mostNumber
+unfolding referenceAt
+size-reference t legal column k =
+    by-test (λ z. natAbs z ≤ mostNumber) (marked (t .curves .given) (12 * column + k))
+    (λ _. legal .curves .each (12 * column + k)) (λ _. legal .reference .each column)
+
 ranged-column : {t : Tape} → Legal t → (column k : ℕ) → column < t .n + t .m → Ranged (columnTerm t column k)
 ranged-column {t} legal column k h = record {
   weighed = omega (arith, order, times (pos 4096) (at (t .weight) column), le→ (legal .weighed column h));
   penalty = size-units (legal .weight) column;
   low = legal .low .each column;
   high = legal .high .each column;
-  reference = legal .reference .each column;
+  reference = size-reference t legal column k;
   ordered = legal .ordered column;
 }
 
 -- ---- The four tables
 
--- what `spread` gives: a column's numbers in every step
+-- what `spread` gives: a row in every step
 abbrev Spread : Tape → List ℤ → ℤ → List ℤ → Type 0
-Spread t column blank table = Stretch 0 120 (λ p. placed column (t .n) (t .m) blank (p % 10)) (replicate 120 (pos 0)) table
-
-spread-at : (t : Tape) (column : List ℤ) (blank : ℤ) {table : List ℤ} → Spread t column blank table → (k c : ℕ) → k < 12 → c < 10 →
-    at table (10 * k + c) ≡ placed column (t .n) (t .m) blank c
-spread-at t column blank s k c h l =
-    fill-at s (10 * k + c) (omega arith) ∙ ap (placed column (t .n) (t .m) blank) (mul-add-mod-self-left 10 k c ∙ mod-eq-of-lt l)
+Spread t row blank table = Steps 10 12 (λ k. placed (at row) (t .n) (t .m) blank) table
 
 module _ {t : Tape} {weights penalty low high reference : List ℤ} (legal : Legal t)
     (w : Stretch 0 10 (λ c. pos 4096 *ℤ at (t .weight) c) (replicate 10 (pos 0)) weights) (p : Spread t weights (pos 4096) penalty)
-    (l : Spread t (t .low) (pos 0) low) (h : Spread t (t .high) (pos 0) high) (r : Spread t (t .reference) (pos 0) reference) where
+    (l : Spread t (t .low) (pos 0) low) (h : Spread t (t .high) (pos 0) high)
+    (r : Steps 10 12 (λ k. placed (λ column. referenceAt t column k) (t .n) (t .m) (pos 0)) reference) where
   abbrev term : ℕ → ℕ → Term
   term k c = termAt penalty low high reference (10 * k + c)
 
   placed-term : (k c : ℕ) → k < 12 → c < 10 →
-      term k c ≡ termOf (placed weights (t .n) (t .m) (pos 4096) c) (placed (t .low) (t .n) (t .m) (pos 0) c) (placed (t .high) (t .n) (t .m) (pos 0) c)
-      (placed (t .reference) (t .n) (t .m) (pos 0) c)
-  placed-term k c a b =
-      rw (
-        spread-at t weights (pos 4096) p k c a b,
-        spread-at t (t .low) (pos 0) l k c a b,
-        spread-at t (t .high) (pos 0) h k c a b,
-        spread-at t (t .reference) (pos 0) r k c a b,
-      )
+      term k c ≡ termOf (placed (at weights) (t .n) (t .m) (pos 4096) c) (placed (at (t .low)) (t .n) (t .m) (pos 0) c)
+      (placed (at (t .high)) (t .n) (t .m) (pos 0) c) (placed (λ column. referenceAt t column k) (t .n) (t .m) (pos 0) c)
+  placed-term k c a b = rw (p .each k c a b, l .each k c a b, h .each k c a b, r .each k c a b)
 
-  -- what `placed` is at c, of every column, gives the term
+  -- what `placed` is at c, of every row, gives the term
   column-term : (k c q : ℕ) → k < 12 → c < 10 → q < 10 →
-      ((x : List ℤ) (blank : ℤ) → placed x (t .n) (t .m) blank c ≡ at x q) → term k c ≡ columnTerm t q k
+      ((x : ℕ → ℤ) (blank : ℤ) → placed x (t .n) (t .m) blank c ≡ x q) → term k c ≡ columnTerm t q k
   column-term k c q a b d e =
-      placed-term k c a b ∙ rw (e weights (pos 4096) ∙ fill-at w q d, e (t .low) (pos 0), e (t .high) (pos 0), e (t .reference) (pos 0))
+      placed-term k c a b ∙ rw (e (at weights) (pos 4096) ∙ fill-at w q d, e (at (t .low)) (pos 0), e (at (t .high)) (pos 0), e (λ column. referenceAt t column k) (pos 0))
 
-  blank-term : (k c : ℕ) → k < 12 → c < 10 → ((x : List ℤ) (blank : ℤ) → placed x (t .n) (t .m) blank c ≡ blank) → term k c ≡ blankTerm
-  blank-term k c a b e = placed-term k c a b ∙ rw (e weights (pos 4096), e (t .low) (pos 0), e (t .high) (pos 0), e (t .reference) (pos 0))
+  blank-term : (k c : ℕ) → k < 12 → c < 10 → ((x : ℕ → ℤ) (blank : ℤ) → placed x (t .n) (t .m) blank c ≡ blank) → term k c ≡ blankTerm
+  blank-term k c a b e = placed-term k c a b ∙ rw (e (at weights) (pos 4096), e (at (t .low)) (pos 0), e (at (t .high)) (pos 0), e (λ column. referenceAt t column k) (pos 0))
 
   input : (k c : ℕ) → k < 12 → c < t .m → term k c ≡ columnTerm t (t .n + c) k
   input k c a b =

@@ -5,17 +5,16 @@ use mathlib.Core.Bool.{cond}
 use mathlib.Core.List.{List}
 use lib.Dec.{ltb}
 use lib.IntN.{ℤ, pos}
-use Rattle.integer.specs.Places.{at}
 use Rattle.tape.specs.declared.Tape.{Tape}
 use Rattle.problem.specs.Model.{Term, columnTerm}
 use Rattle.primal.specs.Padded.{termOf, termAt}
 use Rattle.primal.specs.Ranges.{Tables}
 
--- The number of a column for place c of a step: inputs are columns n on, at places 0 to m−1; states are columns 0 on, at places 4
--- on; `blank` beyond the sizes.
-unfoldable pub placed : List ℤ → ℕ → ℕ → ℤ → ℕ → ℤ
-placed column n m blank c =
-    cond (ltb c 4) (cond (ltb c m) (at column (n + c)) blank) (cond (ltb (c - 4) n) (at column (c - 4)) blank)
+-- Of numbers by column, the one for place c of a step: inputs are columns n on, at places 0 to m−1; states are columns 0 on, at
+-- places 4 on; `blank` beyond the sizes.
+unfoldable pub placed : (ℕ → ℤ) → ℕ → ℕ → ℤ → ℕ → ℤ
+placed number n m blank c =
+    cond (ltb c 4) (cond (ltb c m) (number (n + c)) blank) (cond (ltb (c - 4) n) (number (c - 4)) blank)
 
 -- Beyond the sizes: it costs nothing at 0, and its limits leave only 0.
 abbrev pub blankTerm : Term

@@ -1,12 +1,16 @@
 // The terms of a tape at padded places.
-ghost use Prim.Native.Nat.{_%_, _≤_};
+ghost use Prim.Native.Nat.{_+_, _*_, _<_, _≤_};
 ghost use mathlib.Core.Path.{_≡_};
-ghost use lib.ListN.{replicate};
+ghost use mathlib.Core.Bool.{cond};
+ghost use lib.ListN.{length, replicate};
 ghost use lib.IntN.{pos, _*ℤ_};
-ghost use Rattle.integer.specs.Places.{at, Bounded, Stretch};
+ghost use Rattle.integer.specs.Places.{at, Bounded, Stretch, Steps};
+ghost use Rattle.commands.specs.Marks.{marked};
 ghost use Rattle.commands.specs.Ranges.{mostWeight};
 ghost use Rattle.tape.specs.Legal.{Legal};
+ghost use Rattle.tape.specs.Tape.{referenceAt};
 ghost use Rattle.primal.specs.Terms.{placed, TermsOf};
+use tape::Curves;
 use tape::Tape;
 
 // P, lo, hi and r of every plan number. Beyond the sizes lo, hi and r are 0, and P is 4096, so that
@@ -18,32 +22,84 @@ pub struct Terms {
     pub reference: [i64; 120],
 }
 
-// What a column's numbers have for place c of a step.
-fn placed_at(column: &[i64; 10], n: usize, m: usize, blank: i64, c: usize) -> i64
+// What a row of numbers by column has for place c of a step.
+fn placed_at(row: &[i64; 10], n: usize, m: usize, blank: i64, c: usize) -> i64
     requires { ⌜ (n ≤ 6) × (m ≤ 4) ⌝ }
-    ensures { λ r. ⌜ r ≡ placed (now (column .entry)) n m blank c ⌝ }
+    ensures { λ r. ⌜ r ≡ placed (at (now (row .entry))) n m blank c ⌝ }
 {
     if c < 4 {
         if c < m {
-            return column[n + c];
+            return row[n + c];
         }
         return blank;
     }
     if c - 4 < n {
-        return column[c - 4];
+        return row[c - 4];
     }
     blank
 }
 
-fn spread(column: &[i64; 10], n: usize, m: usize, blank: i64) -> [i64; 120]
+// Puts a row of numbers by column into a step of a table.
+fn put_row(table: &mut [i64; 120], row: &[i64; 10], n: usize, m: usize, blank: i64, k: usize)
+    requires { ⌜ (n ≤ 6) × (m ≤ 4) × (k < 12) × (length (now table) ≡ 120) ⌝ }
+    ensures { λ _. ⌜ Stretch (10 * k) 10 (placed (at (now (row .entry))) n m blank) (now (table .entry)) (now (table .exit)) ⌝ }
+{
+    let mut c: usize = 0;
+    while c < 10 {
+        table[10 * k + c] = placed_at(row, n, m, blank, c);
+        c += 1;
+    }
+}
+
+// The same row in every step.
+fn spread(row: &[i64; 10], n: usize, m: usize, blank: i64) -> [i64; 120]
     requires { ⌜ (n ≤ 6) × (m ≤ 4) ⌝ }
-    ensures { λ r. ⌜ Stretch 0 120 (λ p. placed (now (column .entry)) n m blank (p % 10)) (replicate 120 (pos 0)) r ⌝ }
+    ensures { λ r. ⌜ Steps 10 12 (λ k. placed (at (now (row .entry))) n m blank) r ⌝ }
 {
     let mut table = [0i64; 120];
-    let mut p: usize = 0;
-    while p < 120 {
-        table[p] = placed_at(column, n, m, blank, p % 10);
-        p += 1;
+    let mut k: usize = 0;
+    while k < 12 {
+        put_row(&mut table, row, n, m, blank, k);
+        k += 1;
+    }
+    table
+}
+
+fn own_or_held(given: bool, own: i64, held: i64) -> i64
+    ensures { λ r. ⌜ r ≡ cond given own held ⌝ }
+{
+    if given {
+        return own;
+    }
+    held
+}
+
+// The references of all columns at step k.
+fn references_at(curves: Curves, held: &[i64; 10], k: usize) -> [i64; 10]
+    requires { ⌜ k < 12 ⌝ }
+    ensures { λ r. ⌜ Stretch 0 10 (λ c. cond (marked (curves .given) (12 * c + k)) (at (curves .reference) (12 * c + k)) (at (now (held .entry)) c)) (replicate 10 (pos 0)) r ⌝ }
+{
+    let mut row = [0i64; 10];
+    let mut c: usize = 0;
+    while c < 10 {
+        let p = 12 * c + k;
+        row[c] = own_or_held(curves.given[p], curves.reference[p], held[c]);
+        c += 1;
+    }
+    row
+}
+
+// The references of every step.
+fn references(t: Tape) -> [i64; 120]
+    requires { ⌜ (t .n ≤ 6) × (t .m ≤ 4) ⌝ }
+    ensures { λ r. ⌜ Steps 10 12 (λ k. placed (λ column. referenceAt t column k) (t .n) (t .m) (pos 0)) r ⌝ }
+{
+    let mut table = [0i64; 120];
+    let mut k: usize = 0;
+    while k < 12 {
+        let row = references_at(t.curves, &t.reference, k);
+        put_row(&mut table, &row, t.n, t.m, 0, k);
+        k += 1;
     }
     table
 }
@@ -73,6 +129,6 @@ pub fn terms_of(t: Tape) -> Terms
         penalty: spread(&penalty, n, m, 4096),
         low: spread(&t.low, n, m, 0),
         high: spread(&t.high, n, m, 0),
-        reference: spread(&t.reference, n, m, 0),
+        reference: references(t),
     }
 }

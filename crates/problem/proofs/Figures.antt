@@ -1,5 +1,6 @@
 -- The figures of document 01 that speak of the problem: a table of what the definitions give and what the document says. The
 -- solver's table has these rows and those of M7 and M8; the fact here is what holds a change of the problem's definitions to them.
+-- Below them figures of a curve, worked out by hand.
 use Prim.Native.Nat.{ℕ}
 use mathlib.Core.Path.{_≡_, refl}
 use mathlib.Core.Bool.{cond}
@@ -9,21 +10,27 @@ use Rattle.integer.specs.Operand.{unsigned, signed}
 use Rattle.integer.specs.Quotient.{_÷_}
 use Rattle.integer.specs.Sum.{sum}
 use Rattle.integer.specs.Tests.{outside, any}
-use Rattle.commands.specs.Format.{sizeCommand, stateCommand, inputCommand, driftCommand, columnCommand, startCommand, roundsCommand, decoded, wrongSize, beyond, wrongColumn, wrong, among, required}
+use Rattle.commands.specs.Format.{sizeCommand, stateCommand, inputCommand, driftCommand, columnCommand, referenceCommand, startCommand, roundsCommand, decoded, wrongSize, beyond, wrongColumn, wrong}
+use Rattle.commands.specs.Required.{among, curved, onCurve, required}
 use Rattle.tape.specs.declared.Tape.{Tape}
+use Rattle.tape.specs.Tape.{referenceAt}
 use Rattle.tape.specs.Reading.{obeySize, obeyEntry, absent, obeyEnd, obey, next, readFrom, reading}
 use Rattle.problem.specs.Model.{problemOf, planOf, multipliersOf, stateAt, modelSum, rounded, sumAt}
 use Rattle.problem.specs.Cost.{total, cost, planCost, costOf}
 use Rattle.problem.specs.Dual.{inputSlope, adjoint, carried, stateSlope, conjugate, tilt, piece, pieces, constant, sizes, floor, floorOf, gapOf, larger, most, ceiling, shows}
 
--- tape F, with the state's limits and reference and the wanted gap as given
-abbrev pub bytes : List ℕ → List ℕ → List ℕ
-bytes state wanted =
-    0x10 ∷ 0x01 ∷ 0x01 ∷ 0x01 ∷ 0x20 ∷ 0x00 ∷ 0x00 ∷ 0x00 ∷ 0x10 ∷ 0x21 ∷ 0x00 ∷ 0x00 ∷ 0x00 ∷ 0x08
-    ∷ 0x30 ∷ 0x00 ∷ state
+-- tape F, with N, a curve, the state's limits and reference and the wanted gap as given
+abbrev bytesOf : ℕ → List ℕ → List ℕ → List ℕ → List ℕ
+bytesOf horizon curve state wanted =
+    0x10 ∷ 0x01 ∷ 0x01 ∷ horizon ∷ 0x20 ∷ 0x00 ∷ 0x00 ∷ 0x00 ∷ 0x10 ∷ 0x21 ∷ 0x00 ∷ 0x00 ∷ 0x00 ∷ 0x08
+    ∷ curve
+    ++ 0x30 ∷ 0x00 ∷ state
     ++ 0x01 ∷ 0x30 ∷ 0x01 ∷ 0x00 ∷ 0x00 ∷ 0x28 ∷ 0x00 ∷ 0x00 ∷ 0x00 ∷ 0x01 ∷ 0x40 ∷ 0x00 ∷ 0x64 ∷ 0x00
     ∷ 0x50 ∷ 0x19 ∷ 0x00 ∷ 0x05 ∷ 0x00 ∷ wanted
     ++ 0xFF ∷ []
+
+abbrev pub bytes : List ℕ → List ℕ → List ℕ
+bytes = bytesOf 0x01 []
 
 -- limits −1,000 to 1,000, r 110
 abbrev pub wide : List ℕ
@@ -68,6 +75,27 @@ table =
     ∷ (piece (problemOf G .stateTerm 0 0) (pos 409600), pos 92160000) ∷ (piece (problemOf G .stateTerm 0 0) (pos 409599), pos 92159800)
     ∷ []
 
+-- tape F in two steps, with a curve of 110 and 130 for the state
+abbrev C : Tape
+C = reading (bytesOf 0x02 (0x31 ∷ 0x00 ∷ 0x00 ∷ 0x6E ∷ 0x00 ∷ 0x31 ∷ 0x00 ∷ 0x01 ∷ 0x82 ∷ 0x00 ∷ []) wide ample) .tape
+
+-- a plan for it
+abbrev rising : List ℤ
+rising = pos 4 ∷ pos 102 ∷ pos 4 ∷ pos 104 ∷ []
+
+-- the cost is 4096 (4² + 8² + 4² + 26²), the four pieces are 0, −7,471,104, −65,536 and 8,257,536, the ceiling is
+-- 4096 (2 · 40² + 1110² + 1130²)
+abbrev curveTable : List (ℤ × ℤ)
+curveTable =
+    (costOf C rising, pos 3162112) ∷ (floorOf C (pos 0 ∷ negsuc 15 ∷ []), pos 688128) ∷ (gapOf C rising (pos 0 ∷ negsuc 15 ∷ []), pos 2473984)
+    ∷ (ceiling (problemOf C), pos 10289971200)
+    ∷ []
+
 pub figures : map (λ f. f .0) table ≡ map (λ f. f .1) table
-unfolding unsigned signed _÷_ sum sizeCommand stateCommand inputCommand driftCommand columnCommand startCommand roundsCommand decoded wrongSize beyond outside any wrongColumn wrong among required obeySize obeyEntry absent obeyEnd obey next readFrom reading stateAt modelSum rounded total cost planCost inputSlope adjoint carried stateSlope conjugate tilt piece pieces constant sizes floor larger most ceiling
+unfolding unsigned signed _÷_ sum sizeCommand stateCommand inputCommand driftCommand columnCommand referenceCommand startCommand roundsCommand decoded wrongSize beyond outside any wrongColumn wrong among curved onCurve required obeySize obeyEntry absent obeyEnd obey next readFrom reading referenceAt stateAt modelSum rounded total cost planCost inputSlope adjoint carried stateSlope conjugate tilt piece pieces constant sizes floor larger most ceiling
 figures = refl
+
+-- by itself, since one fact about both tables takes three times as long
+curve-figures : map (λ f. f .0) curveTable ≡ map (λ f. f .1) curveTable
+unfolding unsigned signed _÷_ sum sizeCommand stateCommand inputCommand driftCommand columnCommand referenceCommand startCommand roundsCommand decoded wrongSize beyond outside any wrongColumn wrong among curved onCurve required obeySize obeyEntry absent obeyEnd obey next readFrom reading referenceAt stateAt modelSum rounded total cost planCost inputSlope adjoint carried stateSlope conjugate tilt piece pieces constant sizes floor larger most ceiling
+curve-figures = refl

@@ -6,13 +6,23 @@ use solver::Solved;
 use solver::solve;
 
 fn main() {
-    let mut text = io::large_buffer();
-    let n = io::read_full(0, &mut text);
-    run(&text[..n]);
+    let mut case = Case::new();
+    let mut part: usize = 0;
+    while part < 4 {
+        case = run_part(case);
+        part += 1;
+    }
 }
 
-fn run(text: &[u8]) {
-    let mut case = Case::new();
+// The text may be longer than the buffer: its next part, with the case that the last one began.
+fn run_part(case: Case) -> Case {
+    let mut text = io::large_buffer();
+    let n = io::read_full(0, &mut text);
+    run(case, &text[..n])
+}
+
+fn run(begun: Case, text: &[u8]) -> Case {
+    let mut case = begun;
     let mut at: usize = 0;
     while at < text.len() {
         let c = text[at];
@@ -24,6 +34,7 @@ fn run(text: &[u8]) {
         }
         at += 1;
     }
+    case
 }
 
 fn lend(case: Case) {

@@ -23,10 +23,11 @@ use Rattle.integer.proofs.Tests.{by-test, none, in-range, in-size, any-none}
 use Rattle.commands.specs.declared.Command.{Command}
 use Rattle.commands.specs.declared.Command.the-variants as command
 use Rattle.commands.specs.declared.Entry.{Entry}
-use Rattle.commands.specs.declared.Entry.the-variants.{State, Input, Drift, Column, Start, Rounds}
-use Rattle.commands.specs.Format.{whole, decoded, sizeCommand, stateCommand, inputCommand, driftCommand, columnCommand, startCommand, roundsCommand}
-use Rattle.commands.specs.Format.{wrongSize, beyond, wrongColumn, wrong, placeOf, required}
-use Rattle.commands.specs.Marks.{statePlace, inputPlace, driftPlace, columnPlace, startPlace, roundsPlace, placeCount}
+use Rattle.commands.specs.declared.Entry.the-variants.{State, Input, Drift, Column, Reference, Start, Rounds}
+use Rattle.commands.specs.Format.{whole, decoded, sizeCommand, stateCommand, inputCommand, driftCommand, columnCommand, referenceCommand, startCommand, roundsCommand}
+use Rattle.commands.specs.Format.{wrongSize, beyond, wrongColumn, wrong, placeOf}
+use Rattle.commands.specs.Marks.{statePlace, inputPlace, driftPlace, columnPlace, startPlace, roundsPlace, referencePlace, placeCount, marked}
+use Rattle.commands.specs.Required.{required}
 use Rattle.commands.proofs.Tests.{required-column, required-rounds}
 use Rattle.tape.specs.declared.Answer.the-variants as answer
 use Rattle.tape.specs.declared.Reading.{Reading}
@@ -38,7 +39,7 @@ use Rattle.tape.specs.declared.refusal.Refusal.{Refusal}
 use Rattle.tape.specs.declared.refusal.Refusal.the-variants.{Cut}
 use Rattle.tape.specs.Tape.{blank, withSize, with}
 use Rattle.tape.specs.Legal.{Legal}
-use Rattle.tape.specs.Reading.{marked, sized, absent, next, refusedTape, outcome, readFrom, opened, reading}
+use Rattle.tape.specs.Reading.{sized, absent, next, refusedTape, outcome, readFrom, opened, reading}
 use Rattle.tape.proofs.Steps.{next-leads}
 
 -- ---- Command 50: no test limits `gain` from above, nor `wanted`; the widths of their operands do
@@ -52,15 +53,16 @@ data Ranged : Command → Type 0 where
   input : {i j : ℕ} {v : ℤ} → Ranged (command.Give (Input i j v))
   drift : {i : ℕ} {v : ℤ} → Ranged (command.Give (Drift i v))
   column : {c : ℕ} {lo hi r h : ℤ} → Ranged (command.Give (Column c lo hi r h))
+  reference : {c k : ℕ} {r : ℤ} → Ranged (command.Give (Reference c k r))
   start : {i : ℕ} {v : ℤ} → Ranged (command.Give (Start i v))
   rounds : {g r w : ℕ} → g < 256 ^ 2 → w < 256 ^ 4 → Ranged (command.Give (Rounds (pos g) r (pos w)))
 
 ranged : (s : List ℕ) (at : ℕ) → Bytes s → Ranged (decoded s at)
-unfolding decoded sizeCommand stateCommand inputCommand driftCommand columnCommand startCommand roundsCommand
+unfolding decoded sizeCommand stateCommand inputCommand driftCommand columnCommand referenceCommand startCommand roundsCommand
 ranged s at b =
-    row 0x10 3 (λ _. size) (row 0x20 4 (λ _. state) (row 0x21 4 (λ _. input) (row 0x22 5 (λ _. drift) (row 0x30 8 (λ _. column) (row 0x40 3 (λ _. start)
+    row 0x10 3 (λ _. size) (row 0x20 4 (λ _. state) (row 0x21 4 (λ _. input) (row 0x22 5 (λ _. drift) (row 0x30 8 (λ _. column) (row 0x31 4 (λ _. reference) (row 0x40 3 (λ _. start)
     (row 0x50 8 (λ h. rounds (unsigned-range 2 s (at + 1) b (omega arith)) (unsigned-range 4 s (at + 5) b (omega arith)))
-    (by-test Ranged (eqb (getD s at 0) 0xFF) (λ _. end) (λ _. unknown))))))))
+    (by-test Ranged (eqb (getD s at 0) 0xFF) (λ _. end) (λ _. unknown)))))))))
   where
     row : (byte operands : ℕ) {c others : Command} → (at + operands < length s → Ranged c) → Ranged others →
         Ranged (cond (eqb (getD s at 0) byte) (whole operands s at c) others)
@@ -132,7 +134,7 @@ record Marks (w : ℕ) (h : List ℤ) (gain : ℤ) (rounds : ℕ) (wanted : ℤ)
   weighed : (p : ℕ) → p < w → marked given (columnPlace + p) ≡ true → pos 1 ≼ at h p
   timed : marked given roundsPlace ≡ true → Timed gain rounds wanted
 
--- sizes, A, B, w, x(0), columns, marks
+-- sizes, A, B, w, x(0), columns, references by step, marks
 data Good (t : Tape) (given : List Bool) : Type 0 where
   good : Sizes (t .n) (t .m) (t .horizon) →
       Table 36 16384 (Off 6 (t .n) (t .n)) (t .a) →
@@ -140,6 +142,7 @@ data Good (t : Tape) (given : List Bool) : Type 0 where
       Table 6 16777216 (λ p. t .n ≤ p) (t .drift) →
       Table 6 20000 (λ p. t .n ≤ p) (t .start) →
       Columns (t .n + t .m) (t .low) (t .high) (t .reference) (t .weight) →
+      Table 120 20000 (Off 12 (t .n + t .m) (t .horizon)) (t .curves .reference) →
       Marks (t .n + t .m) (t .weight) (t .gain) (t .rounds) (t .wanted) given →
       Good t given
 
@@ -204,27 +207,32 @@ columns-stored {low = low} {high = high} c {lo} {hi} {r} {h} l n x k =
 entry-kept : {t : Tape} {g : List Bool} (e : Entry) → Ranged (command.Give e) → beyond (t .n) (t .m) (t .horizon) e ≡ false → wrong e ≡ false →
     Good t g → Good (with t e) (set g (placeOf e) true)
 unfolding beyond wrong
-entry-kept {t} (State i j v) _ u r (good z a b w x c k) =
+entry-kept {t} (State i j v) _ u r (good z a b w x c f k) =
     let o = none (leb (t .n) i) (leb (t .n) j ∷ []) u in
     let h : (i < t .n) × (j < t .n) = omega (arith, leb-false) in
     let a′ = stored (6 * i + j) v a (omega arith, λ n. n i j h refl) (in-size 16384 v r) in
-    good z a′ b w x c (marks-other k (statePlace + (6 * i + j)) (omega arith))
-entry-kept {t} (Input i j v) _ u r (good z a b w x c k) =
+    good z a′ b w x c f (marks-other k (statePlace + (6 * i + j)) (omega arith))
+entry-kept {t} (Input i j v) _ u r (good z a b w x c f k) =
     let o = none (leb (t .n) i) (leb (t .m) j ∷ []) u in
     let h : (i < t .n) × (j < t .m) = omega (arith, leb-false) in
     let b′ = stored (4 * i + j) v b (omega arith, λ n. n i j h refl) (in-size 16384 v r) in
-    good z a b′ w x c (marks-other k (inputPlace + (4 * i + j)) (omega arith))
-entry-kept {t} (Drift i v) _ u r (good z a b w x c k) =
+    good z a b′ w x c f (marks-other k (inputPlace + (4 * i + j)) (omega arith))
+entry-kept {t} (Drift i v) _ u r (good z a b w x c f k) =
     let h = leb-false (t .n) i u in
-    good z a b (stored i v w (omega arith) (in-size 16777216 v r)) x c (marks-other k (driftPlace + i) (omega arith))
-entry-kept {t} (Column p lo hi f h) _ u r (good z a b w x c k) =
+    good z a b (stored i v w (omega arith) (in-size 16777216 v r)) x c f (marks-other k (driftPlace + i) (omega arith))
+entry-kept {t} (Column p lo hi q h) _ u r (good z a b w x c f k) =
     let l = leb-false (t .n + t .m) p u in
-    let y = right-column lo hi f h r in
-    good z a b w x (columns-stored p l (omega arith) y c) (marks-column k p h (omega arith) (omega arith) (y .weight .0))
-entry-kept {t} (Start i v) _ u r (good z a b w x c k) =
+    let y = right-column lo hi q h r in
+    good z a b w x (columns-stored p l (omega arith) y c) f (marks-column k p h (omega arith) (omega arith) (y .weight .0))
+entry-kept {t} (Reference p q v) _ u r (good z a b w x c f k) =
+    let o = none (leb (t .n + t .m) p) (leb (t .horizon) q ∷ []) u in
+    let h : (p < t .n + t .m) × (q < t .horizon) = omega (arith, leb-false) in
+    let f′ = stored (12 * p + q) v f (omega arith, λ n. n p q h refl) (in-size 20000 v r) in
+    good z a b w x c f′ (marks-other k (referencePlace + (12 * p + q)) (omega arith))
+entry-kept {t} (Start i v) _ u r (good z a b w x c f k) =
     let h = leb-false (t .n) i u in
-    good z a b w (stored i v x (omega arith) (in-size 20000 v r)) c (marks-other k (startPlace + i) (omega arith))
-entry-kept (Rounds _ _ _) f _ r (good z a b w x c k) = good z a b w x c (marks-rounds k (omega arith) (timed f r))
+    good z a b w (stored i v x (omega arith) (in-size 20000 v r)) c f (marks-other k (startPlace + i) (omega arith))
+entry-kept (Rounds _ _ _) g _ r (good z a b w x c f k) = good z a b w x c f (marks-rounds k (omega arith) (timed g r))
 
 -- ---- Command 10: until it comes nothing is given
 
@@ -240,11 +248,12 @@ size-kept n m horizon u w (inl k) =
     rw (k .0, k .1)
     (good (omega (arith, ltb-false)) table-none table-none table-none table-none
     (record { low = table-none; high = table-none; reference = table-none; weight = table-none; ordered = omega (arith, order) })
+    table-none
     (record {
       weighed = λ p h e. absurd (true≢false (sym e ∙ getD-replicate placeCount (columnPlace + p) false false (omega arith)));
       timed = λ e. absurd (false≢true e);
     }))
-size-kept n m horizon u w (inr (good z _ _ _ _ _ _)) = let e : ⊥ = omega (arith, ltb-false) in absurd e
+size-kept n m horizon u w (inr (good z _ _ _ _ _ _ _)) = let e : ⊥ = omega (arith, ltb-false) in absurd e
 
 once-sized : {t : Tape} {g : List Bool} → not (sized t) ≡ false → Kept t g → Good t g
 once-sized u (inl k) = absurd (true≢false (rw (k .0) at u))
@@ -253,15 +262,15 @@ once-sized u (inr k) = k
 -- ---- FF: every mark it asks for is there
 
 -- a required place that is not absent has its mark
-present : (n m horizon : ℕ) (g : List Bool) (p : ℕ) → absent n m horizon g ≡ false → p < placeCount → required n m horizon p ≡ true → marked g p ≡ true
+present : (n m horizon : ℕ) (g : List Bool) (p : ℕ) → absent n m horizon g ≡ false → p < placeCount → required n m horizon g p ≡ true → marked g p ≡ true
 unfolding absent
 present n m horizon g p e h r =
-    not-false (marked g p) (rw r at (any-none placeCount p (λ q. required n m horizon q && not (marked g q)) h e))
+    not-false (marked g p) (rw r at (any-none placeCount p (λ q. required n m horizon g q && not (marked g q)) h e))
 
 ended-legal : {t : Tape} {g : List Bool} → absent (t .n) (t .m) (t .horizon) g ≡ false → Good t g → Legal t
-ended-legal {t} {g} e (good z a b w x c k) =
+ended-legal {t} {g} e (good z a b w x c f k) =
     let there = present (t .n) (t .m) (t .horizon) g in
-    let f = k .timed (there roundsPlace e (omega arith) (required-rounds (t .n) (t .m) (t .horizon))) in
+    let v = k .timed (there roundsPlace e (omega arith) (required-rounds (t .n) (t .m) (t .horizon) g)) in
     record {
       states = z .states;
       inputs = z .inputs;
@@ -269,16 +278,17 @@ ended-legal {t} {g} e (good z a b w x c k) =
       a = a .bounded;
       b = b .bounded;
       drift = w .bounded;
+      curves = f .bounded;
       start = x .bounded;
       low = c .low .bounded;
       high = c .high .bounded;
       reference = c .reference .bounded;
       weight = c .weight .bounded;
       ordered = c .ordered;
-      weighed = λ p l. k .weighed p l (there (columnPlace + p) e (omega arith) (required-column (t .n) (t .m) (t .horizon) p l));
-      gain = f .gain;
-      rounds = f .rounds;
-      wanted = f .wanted;
+      weighed = λ p l. k .weighed p l (there (columnPlace + p) e (omega arith) (required-column (t .n) (t .m) (t .horizon) g p l));
+      gain = v .gain;
+      rounds = v .rounds;
+      wanted = v .wanted;
       blankA = λ i j l s. a .blank (6 * i + j) (λ p q h y. ⊎-elim (λ d. omega arith) (λ d. omega arith) s);
       blankB = λ i j l s. b .blank (4 * i + j) (λ p q h y. ⊎-elim (λ d. omega arith) (λ d. omega arith) s);
       blankDrift = w .blank;
@@ -287,6 +297,7 @@ ended-legal {t} {g} e (good z a b w x c k) =
       blankHigh = c .high .blank;
       blankReference = c .reference .blank;
       blankWeight = c .weight .blank;
+      blankCurves = λ i j l s. f .blank (12 * i + j) (λ p q h y. ⊎-elim (λ d. omega arith) (λ d. omega arith) s);
     }
 
 -- ---- Reading

@@ -13,7 +13,7 @@ use Rattle.integer.proofs.Naturals.{sumℕ-but-one}
 use Rattle.integer.proofs.Tests.{none}
 use Rattle.commands.specs.declared.Entry.{Entry}
 use Rattle.commands.specs.Format.{bytesOf, wrongSize, beyond, placeOf}
-use Rattle.commands.specs.Marks.{placeCount, sizeBytes, bytesAt, mostBytes, decidingBytes}
+use Rattle.commands.specs.Marks.{placeCount, marked, sizeBytes, bytesAt, mostBytes, decidingBytes}
 use Rattle.commands.proofs.Tests.{inside}
 use Rattle.commands.proofs.Extent.{place-below, some-bytes, bytes-at}
 use Rattle.tape.specs.declared.Answer.{Answer}
@@ -23,7 +23,7 @@ use Rattle.tape.specs.declared.reader.Reader.{Reader}
 use Rattle.tape.specs.declared.reader.Verdict.{Verdict}
 use Rattle.tape.specs.declared.reader.Verdict.the-variants.{Going, Ended, Refused}
 use Rattle.tape.specs.Tape.{with}
-use Rattle.tape.specs.Reading.{marked, sized, next, outcome, readFrom, opened, reading}
+use Rattle.tape.specs.Reading.{sized, next, outcome, readFrom, opened, reading}
 use Rattle.tape.specs.Refusals.{row, figure}
 use Rattle.tape.proofs.Steps.{same-sizes, SmallTape, small-opened, small-next, next-leads}
 

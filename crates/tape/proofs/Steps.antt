@@ -12,9 +12,9 @@ use Rattle.integer.proofs.Tests.{by-test, none}
 use Rattle.commands.specs.declared.Command.{Command}
 use Rattle.commands.specs.declared.Command.the-variants as command
 use Rattle.commands.specs.declared.Entry.{Entry}
-use Rattle.commands.specs.declared.Entry.the-variants.{State, Input, Drift, Column, Start, Rounds}
+use Rattle.commands.specs.declared.Entry.the-variants.{State, Input, Drift, Column, Reference, Start, Rounds}
 use Rattle.commands.specs.Format.{decoded, bytesOf, wrongSize, beyond, wrong, placeOf}
-use Rattle.commands.specs.Marks.{sizeBytes}
+use Rattle.commands.specs.Marks.{marked, sizeBytes}
 use Rattle.commands.specs.Room.{SmallSizes}
 use Rattle.tape.specs.declared.Reading.{Reading}
 use Rattle.tape.specs.declared.Tape.{Tape}
@@ -24,7 +24,7 @@ use Rattle.tape.specs.declared.reader.Verdict.the-variants.{Going, Ended
 use Rattle.tape.specs.declared.refusal.Refusal.{Refusal}
 use Rattle.tape.specs.Refusals.{row, figure}
 use Rattle.tape.specs.Tape.{withSize, with}
-use Rattle.tape.specs.Reading.{refuse, refuseWhen, marked, sized, absent, obeySize, obeyEntry, obeyEnd, obey, next, outcome, readFrom, opened}
+use Rattle.tape.specs.Reading.{refuse, refuseWhen, sized, absent, obeySize, obeyEntry, obeyEnd, obey, next, outcome, readFrom, opened}
 
 -- ---- What the next command leads to: to a reader of which P holds, if P holds where the command is refused and where it is obeyed
 
@@ -79,6 +79,7 @@ same-sizes t (State i j v) = (refl, refl, refl)
 same-sizes t (Input i j v) = (refl, refl, refl)
 same-sizes t (Drift i v) = (refl, refl, refl)
 same-sizes t (Column c lo hi r h) = (refl, refl, refl)
+same-sizes t (Reference c k r) = (refl, refl, refl)
 same-sizes t (Start i v) = (refl, refl, refl)
 same-sizes t (Rounds g rounds wanted) = (refl, refl, refl)
 

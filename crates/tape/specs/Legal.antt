@@ -19,6 +19,7 @@ pub record Legal (t : Tape) : Type 0 where
   pub high : Bounded mostNumber (t .high)
   pub reference : Bounded mostNumber (t .reference)
   pub weight : Bounded mostWeight (t .weight)
+  pub curves : Bounded mostNumber (t .curves .reference)
   pub start : Bounded mostNumber (t .start)
   pub ordered : (column : ℕ) → at (t .low) column ≼ at (t .high) column
   pub weighed : (column : ℕ) → column < t .n + t .m → pos 1 ≼ at (t .weight) column
@@ -33,3 +34,4 @@ pub record Legal (t : Tape) : Type 0 where
   pub blankHigh : (column : ℕ) → t .n + t .m ≤ column → at (t .high) column ≡ pos 0
   pub blankReference : (column : ℕ) → t .n + t .m ≤ column → at (t .reference) column ≡ pos 0
   pub blankWeight : (column : ℕ) → t .n + t .m ≤ column → at (t .weight) column ≡ pos 0
+  pub blankCurves : (column k : ℕ) → k < 12 → (t .n + t .m ≤ column) ⊎ (t .horizon ≤ k) → at (t .curves .reference) (12 * column + k) ≡ pos 0

@@ -3,13 +3,14 @@ use Prim.Native.Nat.{ℕ, zero, suc, _+_}
 use mathlib.Core.Bool.{Bool, true, false, not, cond, _&&_}
 use mathlib.Core.List.{List}
 use lib.Dec.{ltb}
-use lib.ListN.{length, set, getD, replicate}
+use lib.ListN.{length, set, replicate}
 use Rattle.integer.specs.Tests.{any}
 use Rattle.commands.specs.declared.Command.{Command}
 use Rattle.commands.specs.declared.Command.the-variants as command
 use Rattle.commands.specs.declared.Entry.{Entry}
-use Rattle.commands.specs.Format.{decoded, bytesOf, wrongSize, beyond, wrong, placeOf, required}
-use Rattle.commands.specs.Marks.{placeCount, sizeBytes}
+use Rattle.commands.specs.Format.{decoded, bytesOf, wrongSize, beyond, wrong, placeOf}
+use Rattle.commands.specs.Marks.{placeCount, marked, sizeBytes}
+use Rattle.commands.specs.Required.{required}
 use Rattle.tape.specs.declared.Answer.the-variants as answer
 use Rattle.tape.specs.declared.Reading.{Reading}
 use Rattle.tape.specs.declared.Tape.{Tape}
@@ -25,10 +26,6 @@ refuse why q = record { at = q .at; verdict = Refused why; tape = q .tape; given
 
 abbrev pub refuseWhen : Bool → Refusal → Reader → Reader → Reader
 refuseWhen test why q passed = cond test (refuse why q) passed
-
--- the mark of a place that has been given
-abbrev pub marked : List Bool → ℕ → Bool
-marked given place = getD given place false
 
 -- command 10 has been given
 abbrev pub sized : Tape → Bool
@@ -52,7 +49,7 @@ obeyEntry e q =
 
 -- a required place has no mark
 unfoldable pub absent : ℕ → ℕ → ℕ → List Bool → Bool
-absent n m horizon given = any placeCount (λ p. required n m horizon p && not (marked given p))
+absent n m horizon given = any placeCount (λ p. required n m horizon given p && not (marked given p))
 
 -- FF: 3, 7, and 8 at the offset after FF
 unfoldable pub obeyEnd : List ℕ → Reader → Reader

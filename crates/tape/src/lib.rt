@@ -8,7 +8,14 @@ ghost use Rattle.tape.specs.Tape.{blank};
 use crate::refusal::Refusal;
 
 // So many bytes decide a tape, whatever follows them (`decides` in proofs/Deciding).
-pub const DECIDING_BYTES: usize = 472;
+pub const DECIDING_BYTES: usize = 1072;
+
+// The references of command 31 by column and step, at 12 * column + step: 0 where none is given; and
+// a mark where one is.
+pub struct Curves {
+    pub reference: [i64; 120],
+    pub given: [bool; 120],
+}
 
 // The numbers of a tape, 0 where none is given and beyond the sizes. A is row by row at a stride of
 // 6, B at a stride of 4. Columns are the n states, then the m inputs.
@@ -23,6 +30,7 @@ pub struct Tape {
     pub high: [i64; 10],
     pub reference: [i64; 10],
     pub weight: [i64; 10],
+    pub curves: Curves,
     pub start: [i64; 6],
     pub gain: i64,
     pub rounds: usize,
@@ -48,6 +56,12 @@ pub fn blank_tape() -> Tape
     let b = [0i64; 24];
     let six = [0i64; 6];
     let ten = [0i64; 10];
+    let reference = [0i64; 120];
+    let given = [false; 120];
+    let curves = Curves {
+        reference: reference,
+        given: given,
+    };
     Tape {
         n: 0,
         m: 0,
@@ -59,6 +73,7 @@ pub fn blank_tape() -> Tape
         high: ten,
         reference: ten,
         weight: ten,
+        curves: curves,
         start: six,
         gain: 0,
         rounds: 0,

@@ -6,9 +6,10 @@ ghost use lib.ListN.{length};
 ghost use Rattle.commands.specs.Format.{bytesOf, beyond};
 ghost use Rattle.commands.specs.Marks.{sizeBytes};
 ghost use Rattle.commands.specs.Room.{Room, SmallSizes};
-ghost use Rattle.tape.specs.Tape.{with};
+ghost use Rattle.tape.specs.Tape.{withReference, with};
 ghost use Rattle.tape.specs.Reading.{refuse, obeySize, obeyEntry, absent, obeyEnd, obey, next, opened, reading};
 use crate::Answer;
+use crate::Curves;
 use crate::Reading;
 use crate::Tape;
 use crate::blank_tape;
@@ -18,11 +19,11 @@ use commands::Entry;
 use commands::bytes_of;
 use commands::decode;
 use commands::is_beyond;
-use commands::is_required;
 use commands::is_wrong;
 use commands::is_wrong_size;
 use commands::mark::PLACE_COUNT;
 use commands::place_of;
+use commands::required::is_required;
 
 pub enum Verdict {
     Going,
@@ -52,6 +53,17 @@ fn refused(q: Reader, why: Refusal) -> Reader
     }
 }
 
+// The reference of a place, with its mark.
+fn with_reference(curves: Curves, place: usize, reference: i64) -> Curves
+    requires { ⌜ place < 120 ⌝ }
+    ensures { λ r. ⌜ r ≡ withReference curves place reference ⌝ }
+{
+    let mut c = curves;
+    c.reference[place] = reference;
+    c.given[place] = true;
+    c
+}
+
 // The entry's numbers, stored.
 fn stored(tape: Tape, entry: Entry) -> Tape
     requires { ⌜ SmallSizes (tape .n) (tape .m) (tape .horizon) × (beyond (tape .n) (tape .m) (tape .horizon) entry ≡ false) ⌝ }
@@ -78,6 +90,10 @@ fn stored(tape: Tape, entry: Entry) -> Tape
             t.high[c] = high;
             t.reference[c] = reference;
             t.weight[c] = weight;
+            t
+        }
+        Entry::Reference(c, k, reference) => {
+            t.curves = with_reference(t.curves, 12 * c + k, reference);
             t
         }
         Entry::Start(i, v) => {
@@ -150,13 +166,13 @@ fn obey_entry(entry: Entry, q: Reader) -> Reader
 }
 
 // Whether a required place has no mark.
-fn is_absent(given: [bool; PLACE_COUNT], n: usize, m: usize, horizon: usize) -> bool
+fn is_absent(given: &[bool; PLACE_COUNT], n: usize, m: usize, horizon: usize) -> bool
     requires { ⌜ SmallSizes n m horizon ⌝ }
-    ensures { λ r. ⌜ r ≡ absent n m horizon given ⌝ }
+    ensures { λ r. ⌜ r ≡ absent n m horizon (now (given .entry)) ⌝ }
 {
     let mut place = 0;
     while place < PLACE_COUNT {
-        if is_required(place, n, m, horizon) && !given[place] {
+        if is_required(place, n, m, horizon, given) && !given[place] {
             return true;
         }
         place += 1;
@@ -176,7 +192,7 @@ fn obey_end(s: &[u8], q: Reader) -> Reader
     if n < 1 {
         return refused(q, Refusal::Misplaced(at));
     }
-    if is_absent(given, n, m, horizon) {
+    if is_absent(&given, n, m, horizon) {
         return refused(q, Refusal::Absent(at));
     }
     if at + 1 < s.len() {

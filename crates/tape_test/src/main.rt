@@ -6,13 +6,23 @@ use tape::Tape;
 use tape::read;
 
 fn main() {
-    let mut text = io::large_buffer();
-    let n = io::read_full(0, &mut text);
-    run(&text[..n]);
+    let mut case = Case::new();
+    let mut part: usize = 0;
+    while part < 4 {
+        case = run_part(case);
+        part += 1;
+    }
 }
 
-fn run(text: &[u8]) {
-    let mut case = Case::new();
+// The text may be longer than the buffer: its next part, with the case that the last one began.
+fn run_part(case: Case) -> Case {
+    let mut text = io::large_buffer();
+    let n = io::read_full(0, &mut text);
+    run(case, &text[..n])
+}
+
+fn run(begun: Case, text: &[u8]) -> Case {
+    let mut case = begun;
     let mut at: usize = 0;
     while at < text.len() {
         let c = text[at];
@@ -24,26 +34,54 @@ fn run(text: &[u8]) {
         }
         at += 1;
     }
+    case
 }
 
 fn show(case: Case) {
+    let kind = case.kind;
     let tape = case.tape;
-    if case.kind == b'r' {
-        show_reading(&tape, case.digits / 2);
+    if kind == b'r' || kind == b'p' {
+        show_reading(kind, &tape, case.digits / 2);
     }
 }
 
-fn show_reading(tape: &[u8], bytes: usize) {
+fn show_reading(kind: u8, tape: &[u8], bytes: usize) {
     if tape.len() < bytes {
         return;
     }
     let reading = read(&tape[..bytes]);
     let answer = reading.answer;
     match answer {
-        Answer::Accepted => show_tape(reading.tape),
+        Answer::Accepted => show_numbers(kind, reading.tape),
         Answer::Refused(why) => refused(why),
     }
     print::end();
+}
+
+fn show_numbers(kind: u8, t: Tape) {
+    match kind {
+        b'p' => show_curves(t),
+        _ => show_tape(t),
+    }
+}
+
+fn show_curves(t: Tape) {
+    let curves = t.curves;
+    print::word(b"steps");
+    numbers(&curves.reference);
+    marks(&curves.given);
+}
+
+fn marks(list: &[bool]) {
+    let mut i: usize = 0;
+    while i < list.len() {
+        if list[i] {
+            print::unsigned(1);
+        } else {
+            print::unsigned(0);
+        }
+        i += 1;
+    }
 }
 
 fn show_tape(t: Tape) {

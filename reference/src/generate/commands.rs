@@ -2,7 +2,9 @@
 
 use super::random::Random;
 use crate::model::{Column, Furnace, Whole};
-use crate::tape::{COLUMN, DRIFT, END, INPUT_ENTRY, SEARCH, SIZE, START, STATE_ENTRY};
+use crate::tape::{
+    COLUMN, DRIFT, END, INPUT_ENTRY, SEARCH, SIZE, START, STATE_ENTRY, STEP_REFERENCE,
+};
 
 /// One command: its byte and its operands.
 pub type Command = Vec<u8>;
@@ -44,6 +46,15 @@ pub fn column(place: usize, column: &Column) -> Command {
     .concat()
 }
 
+/// Command 31.
+pub fn step_reference(column: usize, k: usize, value: Whole) -> Command {
+    [
+        vec![STEP_REFERENCE, column as u8, k as u8],
+        operand(value, 2),
+    ]
+    .concat()
+}
+
 /// Command 40.
 pub fn start(i: usize, value: Whole) -> Command {
     [vec![START, i as u8], operand(value, 2)].concat()
@@ -81,6 +92,11 @@ pub fn of_furnace(furnace: &Furnace, random: &mut Random) -> Vec<Command> {
     }
     for (place, values) in furnace.columns.iter().enumerate() {
         middle.push(column(place, values));
+    }
+    for (place, curve) in furnace.curves.iter().enumerate() {
+        for (k, value) in curve.iter().flatten().enumerate() {
+            middle.push(step_reference(place, k, *value));
+        }
     }
     for (i, value) in furnace.start.iter().enumerate() {
         middle.push(start(i, *value));

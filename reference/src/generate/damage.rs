@@ -1,11 +1,22 @@
 //! Damaged tapes and noise.
 
-use super::commands::{operand, Command};
+use super::commands::{operand, step_reference, Command};
 use super::random::Random;
-use crate::tape::{operand_bytes, COLUMN, DRIFT, INPUT_ENTRY, SEARCH, SIZE, START, STATE_ENTRY};
+use crate::tape::{
+    operand_bytes, COLUMN, DRIFT, INPUT_ENTRY, SEARCH, SIZE, START, STATE_ENTRY, STEP_REFERENCE,
+};
 
 /// All command bytes but FF.
-const COMMANDS: [u8; 7] = [SIZE, STATE_ENTRY, INPUT_ENTRY, DRIFT, COLUMN, START, SEARCH];
+const COMMANDS: [u8; 8] = [
+    SIZE,
+    STATE_ENTRY,
+    INPUT_ENTRY,
+    DRIFT,
+    COLUMN,
+    STEP_REFERENCE,
+    START,
+    SEARCH,
+];
 
 /// The tape of the commands with one or two damages.
 pub fn damaged(mut commands: Vec<Command>, random: &mut Random) -> Vec<u8> {
@@ -32,7 +43,7 @@ pub fn damaged(mut commands: Vec<Command>, random: &mut Random) -> Vec<u8> {
 fn damage_commands(commands: &mut Vec<Command>, random: &mut Random) {
     let some = random.below(commands.len());
     let before_end = random.below(commands.len());
-    match random.below(8) {
+    match random.below(11) {
         0 => commands.insert(before_end, commands[some].clone()),
         1 => {
             // The same place with another value, or another place.
@@ -51,16 +62,54 @@ fn damage_commands(commands: &mut Vec<Command>, random: &mut Random) {
             }
         }
         4 => {
-            let unknown = random.choose(&[0x00, 0x11, 0x23, 0x31, 0x51, 0xfe, 0x80]);
+            let unknown = random.choose(&[0x00, 0x11, 0x23, 0x32, 0x51, 0xfe, 0x80]);
             commands.insert(before_end, vec![unknown]);
         }
         5 => flip_bit(&mut commands[some], random),
+        6..=8 => damage_steps(commands, random),
         _ => {
             // Several in one command, so that two refusals meet in it.
             for _ in 0..random.choose(&[1, 1, 4]) {
                 extreme_operand(&mut commands[some], random);
             }
         }
+    }
+}
+
+/// One damage to the references of steps. A tape without any gets one, which is too few unless it
+/// has one step.
+fn damage_steps(commands: &mut Vec<Command>, random: &mut Random) {
+    let before_end = random.below(commands.len());
+    let whole = |command: &Command| command[0] == STEP_REFERENCE && command.len() == 5;
+    let places: Vec<usize> = (0..commands.len())
+        .filter(|place| whole(&commands[*place]))
+        .collect();
+    if places.is_empty() {
+        let command = step_reference(random.below(2), 0, random.between(-100, 100));
+        commands.insert(before_end, command);
+        return;
+    }
+    let some = random.choose(&places);
+    let mut copy = commands[some].clone();
+    match random.below(5) {
+        // One step short.
+        0 => {
+            commands.remove(some);
+        }
+        // Twice, with the same reference or another one.
+        1 => {
+            copy[3] ^= random.choose(&[0, 1]);
+            commands.insert(before_end, copy);
+        }
+        // A column or a step too many.
+        2 => {
+            if let Some([SIZE, states, inputs, horizon]) = commands.first().map(Vec::as_slice) {
+                let column = states.wrapping_add(*inputs);
+                (copy[1], copy[2]) = random.choose(&[(column, copy[2]), (copy[1], *horizon)]);
+            }
+            commands.insert(before_end, copy);
+        }
+        _ => extreme_operand(&mut commands[some], random),
     }
 }
 
@@ -87,6 +136,10 @@ fn extreme_operand(command: &mut Command, random: &mut Random) {
             let value = random.choose(&[16_384, 16_385, -16_384, -16_385, 32_767, -32_768]);
             (3, operand(value, 2))
         }
+        STEP_REFERENCE if random.one_in(2) => (
+            1 + random.below(2),
+            operand(random.choose(&[0, 1, 5, 6, 9, 10, 11, 12, 13, 255]), 1),
+        ),
         DRIFT | COLUMN | START if random.one_in(3) => {
             (1, operand(random.choose(&[0, 1, 5, 6, 9, 10, 255]), 1))
         }
@@ -102,12 +155,12 @@ fn extreme_operand(command: &mut Command, random: &mut Random) {
             (2, operand(value, 4))
         }
         COLUMN if random.one_in(4) => (8, operand(random.choose(&[0, 1, 255]), 1)),
-        COLUMN | START => {
+        COLUMN | STEP_REFERENCE | START => {
             let value = random.choose(&[20_000, 20_001, -20_000, -20_001, 32_767, -32_768]);
-            let places: &[usize] = if command[0] == START {
-                &[2]
-            } else {
-                &[2, 4, 6]
+            let places: &[usize] = match command[0] {
+                START => &[2],
+                STEP_REFERENCE => &[3],
+                _ => &[2, 4, 6],
             };
             (random.choose(places), operand(value, 2))
         }
@@ -133,7 +186,7 @@ pub fn noise(random: &mut Random) -> Vec<u8> {
         0 => random.below(12),
         1 => random.below(100),
         2 => random.below(480),
-        _ => 450 + random.below(200),
+        _ => 1_000 + random.below(200),
     };
     let mut bytes = Vec::new();
     match random.below(3) {

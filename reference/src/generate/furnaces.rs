@@ -1,6 +1,7 @@
 //! Furnaces whose tapes are accepted: of all value ranges, at the limits of all numbers, and
 //! tuned so that the rounds end with 'proved' or 'impossible' after a chosen number of rounds.
 
+use super::curves;
 use super::random::Random;
 use crate::floor::Multipliers;
 use crate::model::{floor_div, Column, Furnace, Plan, Whole, UNIT};
@@ -37,6 +38,7 @@ pub(super) fn sized(states: usize, inputs: usize, horizon: usize) -> Furnace {
         b: vec![vec![0; inputs]; states],
         drift: vec![0; states],
         columns: vec![column; states + inputs],
+        curves: vec![None; states + inputs],
         start: vec![0; states],
         step_size: 1,
         rounds: 1,
@@ -66,7 +68,7 @@ fn fill(furnace: &mut Furnace, random: &mut Random, number: fn(&mut Random, Whol
 }
 
 /// A number of any size within the range.
-fn any_size(random: &mut Random, range: Whole) -> Whole {
+pub(super) fn any_size(random: &mut Random, range: Whole) -> Whole {
     match random.below(6) {
         0 => 0,
         1 => random.between(-10, 10),
@@ -77,7 +79,7 @@ fn any_size(random: &mut Random, range: Whole) -> Whole {
 }
 
 /// A number at an end of the range, or next to it.
-fn at_end(random: &mut Random, range: Whole) -> Whole {
+pub(super) fn at_end(random: &mut Random, range: Whole) -> Whole {
     random.choose(&[-range, range, -range, range, range - 1, 1 - range])
 }
 
@@ -122,10 +124,13 @@ pub fn limits(random: &mut Random) -> Furnace {
     furnace
 }
 
-/// A furnace that stays near its references under its reference inputs, as real ones do.
+/// A furnace that stays near its references under its reference inputs, as real ones do. Some have
+/// curves.
 pub(super) fn near_rest(random: &mut Random) -> Furnace {
     let furnace = blank(random);
-    put_near_rest(furnace, random)
+    let mut furnace = put_near_rest(furnace, random);
+    curves::put_near_rest(&mut furnace, random);
+    furnace
 }
 
 /// A furnace of the largest sizes near its references, with a converging g. R is 1, T is 0.
@@ -345,6 +350,9 @@ pub(super) fn put_out_of_reach(furnace: &mut Furnace, random: &mut Random, margi
         column.lo = (column.hi - width).max(-NUMBER_RANGE);
     }
     column.reference = random.between(column.lo, column.hi);
+    for reference in furnace.curves[i].iter_mut().flatten() {
+        *reference = random.between(column.lo, column.hi);
+    }
 }
 
 /// The lowest and highest next state i, the states lying between `lowest` and `highest` and the

@@ -1,6 +1,7 @@
 //! Furnaces whose rounds end late: with 'proved' or 'impossible' after 1,000 to 10,000 rounds.
 //! Most are small, since all these rounds are run several times.
 
+use super::curves;
 use super::furnaces::{
     put_near_rest, put_out_of_reach, rest_drift, rounds_around, sized, trial, MOST_GAP,
 };
@@ -110,15 +111,25 @@ fn put_slow(mut furnace: Furnace, random: &mut Random, swings: bool) -> Furnace 
     };
     put_heavy_columns(&mut furnace, random);
     put_weak_entries(&mut furnace, random);
+    let disturbances: Vec<Whole> = (0..furnace.states)
+        .map(|i| {
+            if swings && i == 0 {
+                swinging(&mut furnace, random, i)
+            } else {
+                creeping(&furnace, random)
+            }
+        })
+        .collect();
     for i in 0..furnace.states {
-        let disturbance = if swings && i == 0 {
-            swinging(&mut furnace, random, i)
-        } else {
-            creeping(&furnace, random)
-        };
-        let drift = rest_drift(&furnace, i) + disturbance;
-        furnace.drift[i] = drift.clamp(-DRIFT_RANGE, DRIFT_RANGE);
+        furnace.drift[i] = rest_drift(&furnace, i);
         furnace.start[i] = furnace.columns[i].reference;
+    }
+    // With a larger g the rounding of a ramp's temperatures would stop the creeping.
+    if furnace.step_size <= 3 && curves::drawn(random) {
+        curves::put_ramps(&mut furnace, random, 0);
+    }
+    for (drift, disturbance) in furnace.drift.iter_mut().zip(disturbances) {
+        *drift = (*drift + disturbance).clamp(-DRIFT_RANGE, DRIFT_RANGE);
     }
     furnace
 }
@@ -184,6 +195,7 @@ fn idle(furnace: &mut Furnace) -> &mut Column {
 /// round. Here it is as high as it can be.
 fn put_idle(blank: Furnace, random: &mut Random) -> Furnace {
     let mut furnace = put_near_rest(blank, random);
+    curves::put_near_rest(&mut furnace, random);
     for row in &mut furnace.b {
         *row.last_mut().expect("there is an input") = 0;
     }
@@ -195,6 +207,7 @@ fn put_idle(blank: Furnace, random: &mut Random) -> Furnace {
         reference: -NUMBER_RANGE,
         weight: MOST_WEIGHT,
     };
+    *furnace.curves.last_mut().expect("there is an input") = None;
     furnace.step_size = random.choose(&[1, 2, 4, 8, 16]);
     furnace.wanted_gap = random.choose(&[0, 1_000, 1_000_000]);
     furnace

@@ -95,7 +95,7 @@ fn simulated(furnace: &Furnace, random: &mut Random) -> Lent {
     for k in 0..furnace.horizon {
         let mut u = Vec::new();
         for j in 0..furnace.inputs {
-            let column = furnace.input_column(j);
+            let column = furnace.input_at(k, j);
             let number = match random.below(3) {
                 0 => column.limit(column.reference),
                 1 => random.choose(&[column.lo, column.hi]),

@@ -3,6 +3,7 @@
 //! [`tape`] gives a tape; [`case`] gives the same tape with slices to lend to the calls.
 
 pub mod commands;
+pub mod curves;
 pub mod damage;
 pub mod furnaces;
 pub mod late;
@@ -122,23 +123,41 @@ fn kind_from(random: &mut Random) -> Kind {
 fn tape_from(random: &mut Random) -> GeneratedTape {
     let kind = kind_from(random);
     let bytes = match kind {
-        Kind::Plain => whole(&furnaces::plain(random), random),
-        Kind::Limits => whole(&furnaces::limits(random), random),
+        Kind::Plain => whole(&plain(random), random),
+        Kind::Limits => whole(&limits(random), random),
         Kind::Proved => whole(&furnaces::proved(random), random),
         Kind::Impossible => whole(&furnaces::impossible(random), random),
         Kind::Rare => whole(&rare::any(random), random),
         Kind::Late => whole(&late::any(random), random),
         Kind::Damaged => {
             let furnace = match random.below(4) {
-                0 => furnaces::limits(random),
+                0 => limits(random),
                 1 => furnaces::proved(random),
-                _ => furnaces::plain(random),
+                _ => plain(random),
             };
             damage::damaged(commands::of_furnace(&furnace, random), random)
         }
         Kind::Noise => damage::noise(random),
     };
     GeneratedTape { kind, bytes }
+}
+
+/// A furnace of all value ranges, some with curves.
+fn plain(random: &mut Random) -> Furnace {
+    let mut furnace = furnaces::plain(random);
+    if curves::drawn(random) {
+        curves::put_any(&mut furnace, random, furnaces::any_size);
+    }
+    furnace
+}
+
+/// A furnace with every number at a limit of its range, some with curves.
+fn limits(random: &mut Random) -> Furnace {
+    let mut furnace = furnaces::limits(random);
+    if curves::drawn(random) {
+        curves::put_any(&mut furnace, random, furnaces::at_end);
+    }
+    furnace
 }
 
 /// The whole tape of a furnace.

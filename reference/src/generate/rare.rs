@@ -1,5 +1,6 @@
 //! Furnaces of shapes that random numbers hardly have, tuned to end with 'proved' or 'impossible'.
 
+use super::curves;
 use super::furnaces::{
     near_rest, put_at_rest, put_near_rest, put_out_of_reach, sized, tuned_to_fail, tuned_to_prove,
 };
@@ -58,7 +59,7 @@ impl Shape {
             Shape::Below | Shape::Above | Shape::Fixed => near_rest(random),
             Shape::LargeEntries => large_entries(random),
             Shape::Hot => hot(random),
-            Shape::Largest => put_near_rest(sized(MOST_STATES, MOST_INPUTS, MOST_STEPS), random),
+            Shape::Largest => largest(random),
         }
     }
 
@@ -74,14 +75,29 @@ impl Shape {
     }
 }
 
-/// Puts some references, at least one, where `place` says.
+/// A furnace of the largest sizes near rest. Some have curves.
+fn largest(random: &mut Random) -> Furnace {
+    let furnace = sized(MOST_STATES, MOST_INPUTS, MOST_STEPS);
+    let mut furnace = put_near_rest(furnace, random);
+    curves::put_near_rest(&mut furnace, random);
+    furnace
+}
+
+/// Puts the references of some columns, at least one, where `place` says, in every step.
 fn put_references(furnace: &mut Furnace, random: &mut Random, place: fn(&Column, Whole) -> Whole) {
     let first = random.below(furnace.columns.len());
-    for (index, column) in furnace.columns.iter_mut().enumerate() {
+    for index in 0..furnace.columns.len() {
         if index == first || random.one_in(3) {
             let most = random.choose(&[1, 10, 100]);
-            let by = random.between(1, most);
-            column.reference = place(column, by).clamp(-NUMBER_RANGE, NUMBER_RANGE);
+            let column = furnace.columns[index];
+            let mut reference = || {
+                let by = random.between(1, most);
+                place(&column, by).clamp(-NUMBER_RANGE, NUMBER_RANGE)
+            };
+            furnace.columns[index].reference = reference();
+            for step in furnace.curves[index].iter_mut().flatten() {
+                *step = reference();
+            }
         }
     }
 }
@@ -111,7 +127,9 @@ fn fix_state(furnace: &mut Furnace, random: &mut Random) {
 fn hot(random: &mut Random) -> Furnace {
     loop {
         let mut furnace = near_rest(random);
-        let raise = raise_columns(&mut furnace, random);
+        let Some(raise) = raise_columns(&mut furnace, random) else {
+            continue;
+        };
         for i in 0..furnace.states {
             furnace.start[i] = (furnace.start[i] + raise[i]).min(NUMBER_RANGE);
             furnace.drift[i] += UNIT * raise[i];
@@ -125,16 +143,25 @@ fn hot(random: &mut Random) -> Furnace {
     }
 }
 
-/// Raises limits and reference of each state by a number of its own. Gives these numbers.
-fn raise_columns(furnace: &mut Furnace, random: &mut Random) -> Vec<Whole> {
+/// Raises limits and references of each state by a number of its own. Gives these numbers, or
+/// nothing where a state's are too far apart to lie above [`HOT`].
+fn raise_columns(furnace: &mut Furnace, random: &mut Random) -> Option<Vec<Whole>> {
     let states = furnace.columns[..furnace.states].iter_mut();
-    let raised = states.map(|column| {
-        let most = NUMBER_RANGE - column.hi.max(column.reference);
-        let raise = random.between(HOT + 1 - column.lo, most);
+    let raised = states.zip(&mut furnace.curves).map(|(column, curve)| {
+        let steps = curve.iter().flatten().copied();
+        let highest = steps.fold(column.hi.max(column.reference), Whole::max);
+        let (least, most) = (HOT + 1 - column.lo, NUMBER_RANGE - highest);
+        if least > most {
+            return None;
+        }
+        let raise = random.between(least, most);
         column.lo += raise;
         column.hi += raise;
         column.reference += raise;
-        raise
+        for reference in curve.iter_mut().flatten() {
+            *reference += raise;
+        }
+        Some(raise)
     });
     raised.collect()
 }
@@ -154,6 +181,7 @@ fn large_entries(random: &mut Random) -> Furnace {
     put_wide_columns(&mut furnace, random);
     let deviation = random.choose(&[2, 10, 40]);
     put_at_rest(&mut furnace, random, deviation);
+    curves::put_near_rest(&mut furnace, random);
     furnace
 }
 

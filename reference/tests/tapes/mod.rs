@@ -2,6 +2,8 @@
 #![allow(dead_code)]
 
 use reference::cases::bytes;
+use reference::generate::commands::{self, Command};
+use reference::model::Column;
 
 /// Document 01's tape F up to its command 50.
 pub const F_FRONT: &str = "10 01 01 01  20 00 00 00 10  21 00 00 00 08 \
@@ -50,4 +52,31 @@ pub fn tape_f_gap(wanted_gap: u32) -> Vec<u8> {
 /// The tape of M9 and M10, with F's command 50.
 pub fn tape_m9() -> Vec<u8> {
     with_search(M9_FRONT, 25, 5, 40_000)
+}
+
+/// The commands of a tape of the largest sizes: all columns, all entries, all starts, no curve.
+pub fn full_commands() -> Vec<Command> {
+    let column = Column {
+        lo: -20_000,
+        hi: 20_000,
+        reference: -20_000,
+        weight: 255,
+    };
+    let mut tape = vec![commands::size(6, 4, 12)];
+    for i in 0..6 {
+        for j in 0..6 {
+            tape.push(commands::state_entry(i, j, -16_384));
+        }
+        for j in 0..4 {
+            tape.push(commands::input_entry(i, j, 16_384));
+        }
+        tape.push(commands::drift(i, -16_777_216));
+        tape.push(commands::start(i, 20_000));
+    }
+    for place in 0..10 {
+        tape.push(commands::column(place, &column));
+    }
+    tape.push(commands::search(65_535, 10_000, 0xffff_ffff));
+    tape.push(vec![0xff]);
+    tape
 }

@@ -22,6 +22,9 @@ drift-requires c κs = search needs
 column-requires : tie.Need-column-requires
 column-requires c κs = search needs
 
+reference-requires : tie.Need-reference-requires
+reference-requires c κs = search needs
+
 start-requires : tie.Need-start-requires
 start-requires c κs = search needs
 
@@ -50,29 +53,34 @@ returns-5 c = (rw (c .before .match .keys5) (c .column .ensures .0), c .column .
 
 returns-6 : tie.Need-returns-6
 unfolding decoded
-returns-6 c = (rw (c .before .match .keys6) (c .start .ensures .0), c .start .ensures .1)
+returns-6 c = (rw (c .before .match .keys6) (c .reference .ensures .0), c .reference .ensures .1)
 
 returns-7 : tie.Need-returns-7
 unfolding decoded
-returns-7 c = (rw (c .before .match .keys7) (c .rounds .ensures .0), c .rounds .ensures .1)
+returns-7 c = (rw (c .before .match .keys7) (c .start .ensures .0), c .start .ensures .1)
 
 returns-8 : tie.Need-returns-8
 unfolding decoded
-returns-8 c = (rw (c .match .keys8), c .before .before .before .pre)
+returns-8 c = (rw (c .before .match .keys8) (c .rounds .ensures .0), c .rounds .ensures .1)
 
 returns-9 : tie.Need-returns-9
 unfolding decoded
-returns-9 c =
+returns-9 c = (rw (c .match .keys9), c .before .before .before .pre)
+
+returns-10 : tie.Need-returns-10
+unfolding decoded
+returns-10 c =
     let r = c .match .rest in
-    let no-size = ne-eqb _ _ (r .0 .0 .0 .0 .0 .0 .0 .1) in
-    let no-state = ne-eqb _ _ (r .0 .0 .0 .0 .0 .0 .1) in
-    let no-input = ne-eqb _ _ (r .0 .0 .0 .0 .0 .1) in
-    let no-drift = ne-eqb _ _ (r .0 .0 .0 .0 .1) in
-    let no-column = ne-eqb _ _ (r .0 .0 .0 .1) in
+    let no-size = ne-eqb _ _ (r .0 .0 .0 .0 .0 .0 .0 .0 .1) in
+    let no-state = ne-eqb _ _ (r .0 .0 .0 .0 .0 .0 .0 .1) in
+    let no-input = ne-eqb _ _ (r .0 .0 .0 .0 .0 .0 .1) in
+    let no-drift = ne-eqb _ _ (r .0 .0 .0 .0 .0 .1) in
+    let no-column = ne-eqb _ _ (r .0 .0 .0 .0 .1) in
+    let no-reference = ne-eqb _ _ (r .0 .0 .0 .1) in
     let no-start = ne-eqb _ _ (r .0 .0 .1) in
     let no-rounds = ne-eqb _ _ (r .0 .1) in
     let no-end = ne-eqb _ _ (r .1) in
-    (simp (no-size, no-state, no-input, no-drift, no-column, no-start, no-rounds, no-end), c .before .before .before .pre)
+    (simp (no-size, no-state, no-input, no-drift, no-column, no-reference, no-start, no-rounds, no-end), c .before .before .before .pre)
 
 pub decode-spec : {M : Type 1} → statement M
 decode-spec =
@@ -84,6 +92,7 @@ decode-spec =
     input-entry-requires
     drift-requires
     column-requires
+    reference-requires
     start-requires
     rounds-requires
     returns
@@ -94,4 +103,5 @@ decode-spec =
     returns-6
     returns-7
     returns-8
-    returns-9)
+    returns-9
+    returns-10)

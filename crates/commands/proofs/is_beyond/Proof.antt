@@ -24,6 +24,12 @@ add-result c = search needs
 enum-known-entry-5 : tie.Need-enum-known-entry-5
 enum-known-entry-5 c = search needs
 
+add-if3 : tie.Need-add-if3
+add-if3 c = search needs
+
+enum-known-entry-6 : tie.Need-enum-known-entry-6
+enum-known-entry-6 c = search needs
+
 enum-told : tie.Need-enum-told
 enum-told c = search needs
 
@@ -53,11 +59,19 @@ returns-6 c = rw (c .before .entry4 .given .1)
 
 returns-7 : tie.Need-returns-7
 unfolding beyond
-returns-7 c = rw (c .before .entry5 .given .1)
+returns-7 c = rw (c .before .before .entry5 .given .1) (or-yes _ refl (le-leb _ _ (c .if3 .taken)) refl)
 
 returns-8 : tie.Need-returns-8
 unfolding beyond
-returns-8 c = rw (c .enum-told .given .1)
+returns-8 c = rw (c .before .before .entry5 .given .1) (or-no refl (lt-leb _ _ (c .if3 .left)) refl)
+
+returns-9 : tie.Need-returns-9
+unfolding beyond
+returns-9 c = rw (c .before .entry6 .given .1)
+
+returns-10 : tie.Need-returns-10
+unfolding beyond
+returns-10 c = rw (c .enum-told .given .1)
 
 pub is-beyond-spec : {M : Type 1} → statement M
 is-beyond-spec =
@@ -69,6 +83,8 @@ is-beyond-spec =
     enum-known-entry-4
     add-result
     enum-known-entry-5
+    add-if3
+    enum-known-entry-6
     enum-told
     returns
     returns-2
@@ -77,4 +93,6 @@ is-beyond-spec =
     returns-5
     returns-6
     returns-7
-    returns-8)
+    returns-8
+    returns-9
+    returns-10)

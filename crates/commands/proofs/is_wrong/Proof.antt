@@ -43,6 +43,12 @@ is-outside-requires-4 c κs = search needs
 enum-known-entry-6 : tie.Need-enum-known-entry-6
 enum-known-entry-6 c = search needs
 
+is-outside-requires-5 : tie.Need-is-outside-requires-5
+is-outside-requires-5 c κs = search needs
+
+enum-known-entry-7 : tie.Need-enum-known-entry-7
+enum-known-entry-7 c = search needs
+
 -- e is the variant's fields, and that the entry is that variant; `known-told` has the fields' ranges
 returns : tie.Need-returns
 unfolding wrong
@@ -80,21 +86,27 @@ returns-5 : tie.Need-returns-5
 unfolding wrong
 returns-5 c =
     let e = c .before .before .entry5 .given in
-    rw (e .1, ← called (e .0 .1 .0) (c .before .known-told5 .given .1 .0 .1)) (c .is-outside4 .ensures)
-
--- the tests but the last
-tests : (c : tie.Joined1) → let e = c .before .before .entry6 .given in c .if1 .if2 ≡ ltZ (e .0 .0) (pos 1) || ltb (e .0 .1 .0) 1
-tests c =
-    let z = called (c .before .before .entry6 .given .0 .0) (c .before .known-told6 .given .0 .1) in
-    or-met (ap (λ (v : ℤ). ltZ v (pos 1)) z) (c .if1 .came) (λ w. (w .0 .taken, w .1)) (λ w. (w .0 .left, w .1))
+    rw (e .1, ← called (e .0 .1 .1 .0) (c .before .known-told5 .given .1 .1 .0 .1)) (c .is-outside4 .ensures)
 
 returns-6 : tie.Need-returns-6
 unfolding wrong
-returns-6 c = rw (c .before .before .before .entry6 .given .1) (or-yes _ (tests (c .before)) (c .if2 .taken) refl)
+returns-6 c =
+    let e = c .before .before .entry6 .given in
+    rw (e .1, ← called (e .0 .1 .0) (c .before .known-told6 .given .1 .0 .1)) (c .is-outside5 .ensures)
+
+-- the tests but the last
+tests : (c : tie.Joined1) → let e = c .before .before .entry7 .given in c .if1 .if2 ≡ ltZ (e .0 .0) (pos 1) || ltb (e .0 .1 .0) 1
+tests c =
+    let z = called (c .before .before .entry7 .given .0 .0) (c .before .known-told7 .given .0 .1) in
+    or-met (ap (λ (v : ℤ). ltZ v (pos 1)) z) (c .if1 .came) (λ w. (w .0 .taken, w .1)) (λ w. (w .0 .left, w .1))
 
 returns-7 : tie.Need-returns-7
 unfolding wrong
-returns-7 c = rw (c .before .before .before .entry6 .given .1) (or-no (tests (c .before)) (c .if2 .left) refl)
+returns-7 c = rw (c .before .before .before .entry7 .given .1) (or-yes _ (tests (c .before)) (c .if2 .taken) refl)
+
+returns-8 : tie.Need-returns-8
+unfolding wrong
+returns-8 c = rw (c .before .before .before .entry7 .given .1) (or-no (tests (c .before)) (c .if2 .left) refl)
 
 pub is-wrong-spec : {M : Type 1} → statement M
 is-wrong-spec =
@@ -111,10 +123,13 @@ is-wrong-spec =
     enum-known-entry-5
     is-outside-requires-4
     enum-known-entry-6
+    is-outside-requires-5
+    enum-known-entry-7
     returns
     returns-2
     returns-3
     returns-4
     returns-5
     returns-6
-    returns-7)
+    returns-7
+    returns-8)

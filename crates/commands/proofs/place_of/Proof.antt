@@ -1,4 +1,4 @@
-use mathlib.Core.Path.{_≡_}
+use mathlib.Core.Path.{_≡_, refl}
 use native.Mathlib.Omega.{arith}
 use borrow.Author.Needs.{needs}
 use Rattle.commands.specs.declared.Entry.{Entry}
@@ -48,8 +48,20 @@ add-result-6 c = omega (arith, bounds (c .before .before .before) (c .before .en
 enum-known-entry-5 : tie.Need-enum-known-entry-5
 enum-known-entry-5 c = search needs
 
+mul-result-3 : tie.Need-mul-result-3
+mul-result-3 c = omega (arith, bounds (c .before .before .before) (c .before .entry5 .given .1))
+
 add-result-7 : tie.Need-add-result-7
 add-result-7 c = omega (arith, bounds (c .before .before .before) (c .before .entry5 .given .1))
+
+add-result-8 : tie.Need-add-result-8
+add-result-8 c = omega (arith, bounds (c .before .before .before) (c .before .entry5 .given .1))
+
+enum-known-entry-6 : tie.Need-enum-known-entry-6
+enum-known-entry-6 c = search needs
+
+add-result-9 : tie.Need-add-result-9
+add-result-9 c = omega (arith, bounds (c .before .before .before) (c .before .entry6 .given .1))
 
 enum-told : tie.Need-enum-told
 enum-told c = search needs
@@ -67,10 +79,13 @@ returns-4 : tie.Need-returns-4
 returns-4 c = let e = c .before .entry4 .given .1 in (rw e, omega (arith, bounds (c .before .before .before) e))
 
 returns-5 : tie.Need-returns-5
-returns-5 c = let e = c .before .entry5 .given .1 in (rw e, omega (arith, bounds (c .before .before .before) e))
+returns-5 c = let e = c .before .entry5 .given .1 in (rw e refl, omega (arith, bounds (c .before .before .before) e))
 
 returns-6 : tie.Need-returns-6
-returns-6 c = search needs
+returns-6 c = let e = c .before .entry6 .given .1 in (rw e, omega (arith, bounds (c .before .before .before) e))
+
+returns-7 : tie.Need-returns-7
+returns-7 c = search needs
 
 pub place-of-spec : {M : Type 1} → statement M
 place-of-spec =
@@ -89,11 +104,16 @@ place-of-spec =
     enum-known-entry-4
     add-result-6
     enum-known-entry-5
+    mul-result-3
     add-result-7
+    add-result-8
+    enum-known-entry-6
+    add-result-9
     enum-told
     returns
     returns-2
     returns-3
     returns-4
     returns-5
-    returns-6)
+    returns-6
+    returns-7)

@@ -10,9 +10,6 @@ Inv-loop text case₀ at₀ case at = (at ≤ length text)
 abbrev μ-loop : tie.MeasureT-loop
 μ-loop text case₀ at₀ case at = length text - at
 
-new-requires : tie.Need-new-requires Inv-loop μ-loop
-new-requires c κs = search needs
-
 loop-holds : tie.Need-loop-holds Inv-loop μ-loop
 loop-holds c = search needs
 
@@ -25,8 +22,8 @@ closed-requires c κs = search needs
 lend-requires : tie.Need-lend-requires Inv-loop μ-loop
 lend-requires c κs = search needs
 
-new-requires-2 : tie.Need-new-requires-2 Inv-loop μ-loop
-new-requires-2 c κs = search needs
+new-requires : tie.Need-new-requires Inv-loop μ-loop
+new-requires c κs = search needs
 
 next-requires : tie.Need-next-requires Inv-loop μ-loop
 next-requires c κs = search needs
@@ -49,12 +46,11 @@ run-spec =
     (tie.spec
     Inv-loop
     μ-loop
-    new-requires
     loop-holds
     shared-slice-read-c
     closed-requires
     lend-requires
-    new-requires-2
+    new-requires
     next-requires
     add-at
     loop-less

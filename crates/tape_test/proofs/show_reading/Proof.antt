@@ -17,8 +17,8 @@ read-requires c κs = search needs
 enum-told : tie.Need-enum-told
 enum-told c = search needs
 
-show-tape-requires : tie.Need-show-tape-requires
-show-tape-requires c κs = search needs
+show-numbers-requires : tie.Need-show-numbers-requires
+show-numbers-requires c κs = search needs
 
 enum-known-answer : tie.Need-enum-known-answer
 enum-known-answer c = search needs
@@ -40,7 +40,7 @@ show-reading-spec =
     slice-aggregate-read
     read-requires
     enum-told
-    show-tape-requires
+    show-numbers-requires
     enum-known-answer
     refused-requires
     end-requires

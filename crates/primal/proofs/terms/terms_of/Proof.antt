@@ -15,17 +15,17 @@ spread-requires-2 c κs = search needs
 spread-requires-3 : tie.Need-spread-requires-3
 spread-requires-3 c κs = search needs
 
-spread-requires-4 : tie.Need-spread-requires-4
-spread-requires-4 c κs = search needs
+references-requires : tie.Need-references-requires
+references-requires c κs = search needs
 
 returns : tie.Need-returns
 returns c =
-    let third = c .before .before .before in
+    let third = c .before in
     let second = third .before .before .before in
     let first = second .before .before .before in
     let weights = first .before .before in
     terms-are (weights .before .before .before .pre) (weights .penalties .ensures) (first .spread .ensures) (second .spread2 .ensures)
-    (third .spread3 .ensures) (c .spread4 .ensures)
+    (third .spread3 .ensures) (c .references .ensures)
 
 pub terms-of-spec : {M : Type 1} → statement M
 terms-of-spec =
@@ -35,5 +35,5 @@ terms-of-spec =
     spread-requires
     spread-requires-2
     spread-requires-3
-    spread-requires-4
+    references-requires
     returns)

@@ -14,7 +14,7 @@ use Rattle.tape.proofs.reader.obey_end.Tie as tie
 sized : (c : tie.Else1) → ltb 0 (c .before .before .before .args .q .tape .n) ≡ true
 sized c = lt-ltb 0 (c .before .before .before .args .q .tape .n) (omega arith)
 
-complete : (c : tie.Else2) → let q = c .before .before .before .before .before .args .q in
+complete : (c : tie.Else2) → let q = c .before .before .before .before .before .before .args .q in
     absent (q .tape .n) (q .tape .m) (q .tape .horizon) (q .given) ≡ false
 complete c = sym (c .before .is-absent .ensures) ∙ c .if2 .left
 
@@ -34,13 +34,13 @@ refused-requires-2 c κs = search needs
 returns-2 : tie.Need-returns-2
 unfolding obeyEnd
 returns-2 c =
-    rw (sized (c .before .before .before), sym (c .before .before .is-absent .ensures) ∙ c .before .if2 .taken) (c .refused2 .ensures)
+    rw (sized (c .before .before .before .before), sym (c .before .before .is-absent .ensures) ∙ c .before .if2 .taken) (c .refused2 .ensures)
 
 add-if3 : tie.Need-add-if3
 add-if3 c = search needs
 
-add-t15 : tie.Need-add-t15
-add-t15 c = search needs
+add-t16 : tie.Need-add-t16
+add-t16 c = search needs
 
 refused-requires-3 : tie.Need-refused-requires-3
 refused-requires-3 c κs = search needs
@@ -49,15 +49,15 @@ returns-3 : tie.Need-returns-3
 unfolding obeyEnd
 returns-3 c =
     let passed = c .before .before in
-    let a = passed .before .before .before .before .before .args in
-    rw (sized (passed .before .before), complete passed, lt-ltb (a .q .at + 1) (length (a .s .now)) (omega arith)) (c .refused3 .ensures)
+    let a = passed .before .before .before .before .before .before .args in
+    rw (sized (passed .before .before .before), complete passed, lt-ltb (a .q .at + 1) (length (a .s .now)) (omega arith)) (c .refused3 .ensures)
 
 returns-4 : tie.Need-returns-4
 unfolding obeyEnd
 returns-4 c =
     let passed = c .before .before in
-    let a = passed .before .before .before .before .before .args in
-    rw (sized (passed .before .before), complete passed, le-ltb (a .q .at + 1) (length (a .s .now)) (omega arith))
+    let a = passed .before .before .before .before .before .before .args in
+    rw (sized (passed .before .before .before), complete passed, le-ltb (a .q .at + 1) (length (a .s .now)) (omega arith))
 
 pub obey-end-spec : {M : Type 1} → statement M
 obey-end-spec =
@@ -69,7 +69,7 @@ obey-end-spec =
     refused-requires-2
     returns-2
     add-if3
-    add-t15
+    add-t16
     refused-requires-3
     returns-3
     returns-4)

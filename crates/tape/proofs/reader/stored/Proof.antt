@@ -79,14 +79,26 @@ element-set-from-weight c = omega (arith, bounds (c .before .before .before) (c 
 enum-known-entry-5 : tie.Need-enum-known-entry-5
 enum-known-entry-5 c = search needs
 
-mul-v-4 : tie.Need-mul-v-4
-mul-v-4 c = omega (arith, bounds (c .before .before .before) (c .before .entry5 .given .1))
+mul-with-reference : tie.Need-mul-with-reference
+mul-with-reference c = omega (arith, bounds (c .before .before .before .before) (c .before .before .entry5 .given .1))
 
-element-set-from-v-4 : tie.Need-element-set-from-v-4
-element-set-from-v-4 c = omega (arith, bounds (c .before .before .before) (c .before .entry5 .given .1))
+add-with-reference : tie.Need-add-with-reference
+add-with-reference c = omega (arith, bounds (c .before .before .before .before) (c .before .before .entry5 .given .1))
+
+with-reference-requires : tie.Need-with-reference-requires
+with-reference-requires c κs = omega (arith, bounds (c .before .before .before .before) (c .before .before .entry5 .given .1))
 
 enum-known-entry-6 : tie.Need-enum-known-entry-6
 enum-known-entry-6 c = search needs
+
+mul-v-4 : tie.Need-mul-v-4
+mul-v-4 c = omega (arith, bounds (c .before .before .before) (c .before .entry6 .given .1))
+
+element-set-from-v-4 : tie.Need-element-set-from-v-4
+element-set-from-v-4 c = omega (arith, bounds (c .before .before .before) (c .before .entry6 .given .1))
+
+enum-known-entry-7 : tie.Need-enum-known-entry-7
+enum-known-entry-7 c = search needs
 
 -- e is the variant's fields, and that the entry is that variant; k is the fields' ranges
 returns : tie.Need-returns
@@ -121,14 +133,20 @@ returns-4 c =
 
 returns-5 : tie.Need-returns-5
 returns-5 c =
-    let e = c .before .entry5 .given in
-    let k = c .known-told5 .given in
-    rw (e .1, called (e .0 .1 .0) (k .1 .0 .1))
+    let e = c .before .before .before .entry5 .given in
+    let k = c .before .before .known-told5 .given in
+    rw (c .with-reference .ensures, e .1, called (e .0 .1 .1 .0) (k .1 .1 .0 .1))
 
 returns-6 : tie.Need-returns-6
 returns-6 c =
     let e = c .before .entry6 .given in
     let k = c .known-told6 .given in
+    rw (e .1, called (e .0 .1 .0) (k .1 .0 .1))
+
+returns-7 : tie.Need-returns-7
+returns-7 c =
+    let e = c .before .entry7 .given in
+    let k = c .known-told7 .given in
     rw (e .1, called (e .0 .0) (k .0 .1), called (e .0 .1 .1 .0) (k .1 .1 .0 .1))
 
 pub stored-spec : {M : Type 1} → statement M
@@ -158,12 +176,17 @@ stored-spec =
     mul-weight
     element-set-from-weight
     enum-known-entry-5
+    mul-with-reference
+    add-with-reference
+    with-reference-requires
+    enum-known-entry-6
     mul-v-4
     element-set-from-v-4
-    enum-known-entry-6
+    enum-known-entry-7
     returns
     returns-2
     returns-3
     returns-4
     returns-5
-    returns-6)
+    returns-6
+    returns-7)

@@ -1,7 +1,7 @@
 use borrow.Author.Tests.{le-leb, lt-leb}
-use Rattle.commands.specs.Format.{among}
-use Rattle.commands.proofs.is_among.Statement.{statement}
-use Rattle.commands.proofs.is_among.Tie as tie
+use Rattle.commands.specs.Required.{among}
+use Rattle.commands.proofs.required.is_among.Statement.{statement}
+use Rattle.commands.proofs.required.is_among.Tie as tie
 
 returns : tie.Need-returns
 unfolding among

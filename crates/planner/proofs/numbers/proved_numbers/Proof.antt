@@ -3,8 +3,8 @@ use native.Mathlib.Omega.{arith}
 use mir.Syntax.{w64}
 use mir.Facts.{toZ-ofZ, toZ-pos}
 use Rattle.integer.proofs.Sizes.{widened}
-use Rattle.planner.proofs.proved_numbers.Statement.{statement}
-use Rattle.planner.proofs.proved_numbers.Tie as tie
+use Rattle.planner.proofs.numbers.proved_numbers.Statement.{statement}
+use Rattle.planner.proofs.numbers.proved_numbers.Tie as tie
 
 cast-t4 : tie.Need-cast-t4
 cast-t4 c = search needs

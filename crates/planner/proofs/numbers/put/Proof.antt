@@ -1,25 +1,25 @@
 use Prim.Native.Nat.{_≤_, _-_}
-use mathlib.Core.Path.{_≡_, _∙_, ap}
+use mathlib.Core.Path.{_≡_, refl, _∙_, ap}
 use mathlib.Core.List.{List, _++_}
 use native.Mathlib.Omega.{arith}
 use native.Mathlib.Numerals.{add-one}
-use lib.ListN.{length, take}
+use lib.ListN.{length, take, length-set}
 use lib.Seq.{paste, paste-zero, paste-suc, length-paste, take-paste, take-length}
 use lib.IntN.{ℤ, pos}
 use denote.Ref.{now}
 use borrow.Author.Needs.{needs}
 use Rattle.integer.proofs.Sizes.{called}
-use Rattle.planner.proofs.put.Statement.{statement}
-use Rattle.planner.proofs.put.Tie as tie
+use Rattle.planner.proofs.numbers.put.Statement.{statement}
+use Rattle.planner.proofs.numbers.put.Tie as tie
 
 abbrev Inv-loop : tie.InvT-loop
-Inv-loop out₀ first from j₀ out j = (j ≤ length from) × (out ≡ paste out₀ first from j)
+Inv-loop out₀ first from j₀ out j = (j ≤ length from) × (out ≡ paste out₀ first from j) × (length out ≡ length out₀)
 
 abbrev μ-loop : tie.MeasureT-loop
 μ-loop out₀ first from j₀ out j = length from - j
 
 loop-holds : tie.Need-loop-holds Inv-loop μ-loop
-loop-holds c = let a = c .args in (omega arith, paste-zero (now (a .out)) (a .first) (now (a .from)))
+loop-holds c = let a = c .args in (omega arith, paste-zero (now (a .out)) (a .first) (now (a .from)), refl)
 
 mul-out : tie.Need-mul-out Inv-loop μ-loop
 mul-out c = search needs
@@ -33,8 +33,8 @@ add-t9 c = search needs
 mul-t10 : tie.Need-mul-t10 Inv-loop μ-loop
 mul-t10 c = search needs
 
-element-set-from-out : tie.Need-element-set-from-out Inv-loop μ-loop
-element-set-from-out c = search needs
+slice-set-from-out : tie.Need-slice-set-from-out Inv-loop μ-loop
+slice-set-from-out c = search needs
 
 add-j : tie.Need-add-j Inv-loop μ-loop
 add-j c = search needs
@@ -50,7 +50,11 @@ loop-again c =
       omega arith,
       rw (l .inv .1, called _ (c .out .given), add-one (l .j))
           (paste-suc (now (a .out)) (a .first) (now (a .from)) (l .j) (pos 0) (omega arith) (c .before .loop-test .taken)),
+      simp length-set (l .inv .2),
     )
+
+same-length : tie.Need-same-length Inv-loop μ-loop
+same-length c = c .before .loop .inv .2
 
 returns : tie.Need-returns Inv-loop μ-loop
 returns c =
@@ -60,7 +64,7 @@ returns c =
     let e : l .j ≡ length from = omega arith in
     rw (l .inv .1, e) (
       take-paste (now (a .out)) (a .first) from (length from) (omega arith) (omega arith) ∙ ap (λ (x : List ℤ). take (a .first) (now (a .out)) ++ x) (take-length from),
-      length-paste (now (a .out)) (a .first) from (length from) (omega arith) (omega arith) ∙ c .before .before .pre .0,
+      length-paste (now (a .out)) (a .first) from (length from) (omega arith) (omega arith),
     )
 
 pub put-spec : {M : Type 1} → statement M
@@ -74,8 +78,9 @@ put-spec =
     shared-slice-copy-out-out
     add-t9
     mul-t10
-    element-set-from-out
+    slice-set-from-out
     add-j
     loop-less
     loop-again
+    same-length
     returns)

@@ -4,6 +4,7 @@ use mathlib.Core.Path.{_≡_, refl}
 use mathlib.Core.Bool.{_||_}
 use mathlib.Core.List.{List}
 use native.Mathlib.Omega.{arith}
+use lib.ListN.{length}
 use lib.IntN.{ℤ, _-ℤ_}
 use lib.Signed.{ltZ}
 use Rattle.integer.proofs.Operand.{Bytes}
@@ -17,7 +18,7 @@ use Rattle.tape.specs.declared.refusal.Refusal.the-variants.{Cut, Unknown, Misp
 use Rattle.tape.specs.Reading.{reading}
 use Rattle.tape.specs.Refusals.{row, figure}
 use Rattle.tape.proofs.Facts.{legal}
-use Rattle.tape.proofs.Offsets.{Carrying, carrying}
+use Rattle.tape.proofs.Offsets.{Bounds, bounds}
 use Rattle.problem.specs.Model.{problemOf, planOf, multipliersOf}
 use Rattle.problem.specs.Cost.{costOf}
 use Rattle.problem.specs.Dual.{floorOf, shows, floor}
@@ -68,12 +69,12 @@ abbrev pub SmallRead : Answer → Type 0
 SmallRead answer.Accepted = Unit {0}
 SmallRead (answer.Refused why) = Small why
 
-from-tape : (a : Answer) → Carrying a → SmallRead a
-from-tape answer.Accepted h = tt
-from-tape (answer.Refused why) h = omega (arith, deciding-bytes)
+from-tape : (long : ℕ) (a : Answer) → Bounds long a → SmallRead a
+from-tape long answer.Accepted h = tt
+from-tape long (answer.Refused why) h = omega (arith, deciding-bytes)
 
 pub small-read : (s : List ℕ) → SmallRead (reading s .answer)
-small-read s = from-tape (reading s .answer) (carrying s)
+small-read s = from-tape (length s) (reading s .answer) (bounds s)
 
 -- ---- The judges
 

@@ -16,7 +16,7 @@ use Rattle.integer.proofs.Tests.{by-test}
 use Rattle.commands.specs.Ranges.{mostNumber}
 use Rattle.commands.specs.Marks.{marked}
 use Rattle.tape.specs.declared.Tape.{Tape}
-use Rattle.tape.specs.Tape.{referenceAt}
+use Rattle.tape.specs.Tape.{stepReference, referenceAt}
 use Rattle.tape.specs.Legal.{Legal}
 use Rattle.problem.specs.Model.{Term, columnTerm}
 use Rattle.primal.specs.Padded.{termOf, termAt}
@@ -66,7 +66,7 @@ ranged-blank = record {
 }
 
 size-reference : (t : Tape) → Legal t → (column k : ℕ) → natAbs (referenceAt t column k) ≤ mostNumber
-unfolding referenceAt
+unfolding stepReference
 size-reference t legal column k =
     by-test (λ z. natAbs z ≤ mostNumber) (marked (t .curves .given) (12 * column + k))
     (λ _. legal .curves .each (12 * column + k)) (λ _. legal .reference .each column)

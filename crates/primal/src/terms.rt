@@ -1,14 +1,13 @@
 // The terms of a tape at padded places.
-ghost use Prim.Native.Nat.{_+_, _*_, _<_, _≤_};
+ghost use Prim.Native.Nat.{_*_, _<_, _≤_};
 ghost use mathlib.Core.Path.{_≡_};
 ghost use mathlib.Core.Bool.{cond};
 ghost use lib.ListN.{length, replicate};
 ghost use lib.IntN.{pos, _*ℤ_};
 ghost use Rattle.integer.specs.Places.{at, Bounded, Stretch, Steps};
-ghost use Rattle.commands.specs.Marks.{marked};
 ghost use Rattle.commands.specs.Ranges.{mostWeight};
 ghost use Rattle.tape.specs.Legal.{Legal};
-ghost use Rattle.tape.specs.Tape.{referenceAt};
+ghost use Rattle.tape.specs.Tape.{stepReference, referenceAt};
 ghost use Rattle.primal.specs.Terms.{placed, TermsOf};
 use tape::Curves;
 use tape::Tape;
@@ -77,7 +76,7 @@ fn own_or_held(given: bool, own: i64, held: i64) -> i64
 // The references of all columns at step k.
 fn references_at(curves: Curves, held: &[i64; 10], k: usize) -> [i64; 10]
     requires { ⌜ k < 12 ⌝ }
-    ensures { λ r. ⌜ Stretch 0 10 (λ c. cond (marked (curves .given) (12 * c + k)) (at (curves .reference) (12 * c + k)) (at (now (held .entry)) c)) (replicate 10 (pos 0)) r ⌝ }
+    ensures { λ r. ⌜ Stretch 0 10 (λ c. stepReference curves (now (held .entry)) c k) (replicate 10 (pos 0)) r ⌝ }
 {
     let mut row = [0i64; 10];
     let mut c: usize = 0;

@@ -11,7 +11,7 @@ use Rattle.integer.specs.Tests.{outside, any}
 use Rattle.commands.specs.Format.{sizeCommand, stateCommand, inputCommand, driftCommand, columnCommand, referenceCommand, startCommand, roundsCommand, decoded, wrongSize, beyond, wrongColumn, wrong}
 use Rattle.commands.specs.Required.{among, curved, onCurve, required}
 use Rattle.tape.specs.declared.refusal.Refusal.{Refusal}
-use Rattle.tape.specs.Tape.{referenceAt}
+use Rattle.tape.specs.Tape.{stepReference}
 use Rattle.tape.specs.Reading.{obeySize, obeyEntry, absent, obeyEnd, obey, next, readFrom, reading}
 use Rattle.tape.specs.Refusals.{row, figure}
 use Rattle.problem.specs.Model.{stateAt, modelSum, rounded, residual}
@@ -75,5 +75,5 @@ whole =
     ∷ []
 
 pub figures : map (λ f. f .0) whole ≡ map (λ f. f .1) whole
-unfolding unsigned signed _÷_ sum sizeCommand stateCommand inputCommand driftCommand columnCommand referenceCommand startCommand roundsCommand decoded wrongSize beyond outside wrongColumn wrong among curved onCurve required obeySize obeyEntry absent obeyEnd obey next readFrom reading referenceAt stateAt modelSum rounded residual total cost planCost inputSlope adjoint carried stateSlope conjugate tilt piece pieces constant sizes floor larger most ceiling limited any first tested stateCheck stepCheck planCheck gapWithin judgedOn judged shownOn shown listed joined ahead minimiser modelStates dropped verdict ascended rounds solvingOn solving
+unfolding unsigned signed _÷_ sum sizeCommand stateCommand inputCommand driftCommand columnCommand referenceCommand startCommand roundsCommand decoded wrongSize beyond outside wrongColumn wrong among curved onCurve required obeySize obeyEntry absent obeyEnd obey next readFrom reading stepReference stateAt modelSum rounded residual total cost planCost inputSlope adjoint carried stateSlope conjugate tilt piece pieces constant sizes floor larger most ceiling limited any first tested stateCheck stepCheck planCheck gapWithin judgedOn judged shownOn shown listed joined ahead minimiser modelStates dropped verdict ascended rounds solvingOn solving
 figures = refl

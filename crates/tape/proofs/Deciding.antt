@@ -52,7 +52,7 @@ module _ (xs ys : List ℕ) (enough : decidingBytes ≤ length xs) where
       rw (next-same q (omega (arith, n .reach)))
       (outcome-same (r .verdict) (r .tape) (readFrom (xs ++ ys) more r) (readFrom xs left r)
       (λ g.
-      let k = subst (λ (v : Verdict). Stays (q .at) v r) g (next-stays xs q small n) in
+      let k = subst (λ (v : Verdict). Stays (length xs) (q .at) v r) g (next-stays xs q small n) in
       read-same left more r (omega arith) (omega (arith, k .0)) (small-next xs q small) (k .1)))
 
   front-decides : reading xs ≡ reading (xs ++ ys)

@@ -315,7 +315,7 @@ next-holds s q b k =
       refused = λ _ _. tt;
       size = λ n m horizon u w. inr (size-kept n m horizon u w k);
       entry = λ e d u x w _. inr (entry-kept e (subst Ranged d (ranged s (q .at) b)) x w (once-sized u k));
-      ended = λ u a. ended-legal a (once-sized u k);
+      ended = λ u a _. ended-legal a (once-sized u k);
     })
 
 pub legal : (s : List ℕ) → Bytes s → reading s .answer ≡ answer.Accepted → Legal (reading s .tape)

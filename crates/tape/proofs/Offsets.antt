@@ -1,4 +1,5 @@
--- How far the commands of a tape reach: each but 10 marks a place that had no mark, so they soon end. No refusal carries a larger number.
+-- How far the commands of a tape reach: each but 10 marks a place that had no mark, so they soon end. No accepted tape is longer, and
+-- no refusal carries a larger number.
 use Prim.Native.Nat.{ℕ, zero, suc, _+_, _<_, _≤_}
 use mathlib.Core.Path.{_≡_, refl, ap, _∙_}
 use mathlib.Core.Bool.{Bool, true, false, cond}
@@ -15,7 +16,7 @@ use Rattle.commands.specs.declared.Entry.{Entry}
 use Rattle.commands.specs.Format.{bytesOf, wrongSize, beyond, placeOf}
 use Rattle.commands.specs.Marks.{placeCount, marked, sizeBytes, bytesAt, mostBytes, decidingBytes}
 use Rattle.commands.proofs.Tests.{inside}
-use Rattle.commands.proofs.Extent.{place-below, some-bytes, bytes-at}
+use Rattle.commands.proofs.Extent.{place-below, some-bytes, bytes-at, deciding-bytes}
 use Rattle.tape.specs.declared.Answer.{Answer}
 use Rattle.tape.specs.declared.Answer.the-variants as answer
 use Rattle.tape.specs.declared.Reading.{Reading}
@@ -60,20 +61,20 @@ pub near-opened : Near opened
 unfolding bytesAhead entryBytes unmarkedBytes mostBytes sumℕ bytesAt
 near-opened = record { long = refl; reach = omega arith }
 
-abbrev pub Stays : ℕ → Verdict → Reader → Type 0
-Stays from Going r = (from < r .at) × Near r
-Stays from Ended r = Unit {0}
-Stays from (Refused why) r = figure (row why .carries) ≤ decidingBytes
+abbrev pub Stays : ℕ → ℕ → Verdict → Reader → Type 0
+Stays long from Going r = (from < r .at) × Near r
+Stays long from Ended r = long ≤ mostBytes + 1
+Stays long from (Refused why) r = figure (row why .carries) ≤ decidingBytes
 
-pub next-stays : (s : List ℕ) (q : Reader) → SmallTape (q .tape) → Near q → let r = next s q in Stays (q .at) (r .verdict) r
+pub next-stays : (s : List ℕ) (q : Reader) → SmallTape (q .tape) → Near q → let r = next s q in Stays (length s) (q .at) (r .verdict) r
 unfolding wrongSize bytesAhead decidingBytes
 next-stays s q small n =
-    next-leads (λ r. Stays (q .at) (r .verdict) r) s q
+    next-leads (λ r. Stays (length s) (q .at) (r .verdict) r) s q
     (record {
       refused = λ why h. omega (arith, n .reach);
       size = λ n′ m′ horizon u w. (omega arith, record { long = n .long; reach = size-reach n′ m′ horizon u w });
       entry = λ e _ _ b _ g. entry e b g;
-      ended = λ _ _. tt;
+      ended = λ _ _ l. omega (arith, n .reach);
     })
   where
     size-reach : (n′ m′ horizon : ℕ) → sized (q .tape) ≡ false → wrongSize n′ m′ horizon ≡ false →
@@ -83,7 +84,7 @@ next-stays s q small n =
         rw (lt-ltb 0 n′ (ltb-false n′ 1 (o .0))) (omega (arith, rw u at (n .reach)))
 
     entry : (e : Entry) → beyond (q .tape .n) (q .tape .m) (q .tape .horizon) e ≡ false → marked (q .given) (placeOf e) ≡ false →
-        Stays (q .at) Going (record { at = q .at + bytesOf e; verdict = Going; tape = with (q .tape) e; given = set (q .given) (placeOf e) true })
+        Stays (length s) (q .at) Going (record { at = q .at + bytesOf e; verdict = Going; tape = with (q .tape) e; given = set (q .given) (placeOf e) true })
     entry e b g =
         let i = inside (q .tape .n) (q .tape .m) (q .tape .horizon) e small b in
         let p = place-below e i in
@@ -93,22 +94,28 @@ next-stays s q small n =
 
 -- ---- Reading
 
-abbrev pub Carrying : Answer → Type 0
-Carrying answer.Accepted = Unit {0}
-Carrying (answer.Refused why) = figure (row why .carries) ≤ decidingBytes
+-- of a tape that is so long
+abbrev pub Bounds : ℕ → Answer → Type 0
+Bounds long answer.Accepted = long ≤ mostBytes + 1
+Bounds long (answer.Refused why) = figure (row why .carries) ≤ decidingBytes
 
-pub carrying : (s : List ℕ) → Carrying (reading s .answer)
+pub bounds : (s : List ℕ) → Bounds (length s) (reading s .answer)
 unfolding reading readFrom decidingBytes
-carrying s = go (length s) opened (omega arith) small-opened near-opened
+bounds s = go (length s) opened (omega arith) small-opened near-opened
   where
-    told : (v : Verdict) (from : ℕ) (r : Reader) (again : Reading) → Stays from v r → (from < r .at → Near r → Carrying (again .answer)) →
-        Carrying (outcome v (r .tape) again .answer)
+    told : (v : Verdict) (from : ℕ) (r : Reader) (again : Reading) → Stays (length s) from v r →
+        (from < r .at → Near r → Bounds (length s) (again .answer)) → Bounds (length s) (outcome v (r .tape) again .answer)
     told Going from r again h f = f (h .0) (h .1)
-    told Ended from r again h f = tt
+    told Ended from r again h f = h
     told (Refused why) from r again h f = h
 
-    go : (left : ℕ) (q : Reader) → length s ≤ q .at + left → SmallTape (q .tape) → Near q → Carrying (readFrom s left q .answer)
+    go : (left : ℕ) (q : Reader) → length s ≤ q .at + left → SmallTape (q .tape) → Near q → Bounds (length s) (readFrom s left q .answer)
     go zero q l small n = omega (arith, n .reach)
     go (suc left) q l small n =
         let r = next s q in
         told (r .verdict) (q .at) r (readFrom s left r) (next-stays s q small n) (λ m k. go left r (omega arith) (small-next s q small) k)
+
+-- command 10, the command of every place, and FF
+pub longest : (s : List ℕ) → reading s .answer ≡ answer.Accepted → length s ≤ 1064
+unfolding decidingBytes
+longest s e = let long = rw e at (bounds s) in omega (arith, deciding-bytes)

@@ -35,7 +35,7 @@ pub record Leads (P : Reader → Type 0) (s : List ℕ) (q : Reader) : Type 0 wh
   pub entry : (e : Entry) → decoded s (q .at) ≡ command.Give e →
       not (sized (q .tape)) ≡ false → beyond (q .tape .n) (q .tape .m) (q .tape .horizon) e ≡ false → wrong e ≡ false → marked (q .given) (placeOf e) ≡ false →
       P (record { at = q .at + bytesOf e; verdict = Going; tape = with (q .tape) e; given = set (q .given) (placeOf e) true })
-  pub ended : not (sized (q .tape)) ≡ false → absent (q .tape .n) (q .tape .m) (q .tape .horizon) (q .given) ≡ false →
+  pub ended : not (sized (q .tape)) ≡ false → absent (q .tape .n) (q .tape .m) (q .tape .horizon) (q .given) ≡ false → length s ≤ q .at + 1 →
       P (record { at = q .at; verdict = Ended; tape = q .tape; given = q .given })
 
 module _ (P : Reader → Type 0) (s : List ℕ) (q : Reader) (k : Leads P s q) where
@@ -53,7 +53,7 @@ module _ (P : Reader → Type 0) (s : List ℕ) (q : Reader) (k : Leads P s q) w
   obeyed (command.Size n m horizon) d = passed _ _ here (λ u. passed _ _ here (λ w. k .size n m horizon u w))
   obeyed (command.Give e) d =
       passed _ _ here (λ u. passed _ _ here (λ b. passed _ _ here (λ w. passed (marked (q .given) (placeOf e)) _ here (λ g. k .entry e d u b w g))))
-  obeyed command.End d = passed _ _ here (λ u. passed _ _ here (λ a. passed (ltb (q .at + 1) (length s)) _ (omega arith) (λ _. k .ended u a)))
+  obeyed command.End d = passed _ _ here (λ u. passed _ _ here (λ a. passed (ltb (q .at + 1) (length s)) _ (omega arith) (λ o. k .ended u a (ltb-false _ _ o))))
 
   pub next-leads : P (next s q)
   unfolding next
@@ -89,7 +89,7 @@ small-with t e h = omega (arith, same-sizes t e)
 pub small-next : (s : List ℕ) (q : Reader) → SmallTape (q .tape) → SmallTape (next s q .tape)
 small-next s q h =
     next-leads (λ r. SmallTape (r .tape)) s q
-    (record { refused = λ _ _. h; size = λ n m horizon _ w. small-size (q .tape) n m horizon w; entry = λ e _ _ _ _ _. small-with (q .tape) e h; ended = λ _ _. h })
+    (record { refused = λ _ _. h; size = λ n m horizon _ w. small-size (q .tape) n m horizon w; entry = λ e _ _ _ _ _. small-with (q .tape) e h; ended = λ _ _ _. h })
 
 -- ---- Reading on
 

@@ -40,11 +40,13 @@ noCurves = record { reference = zeros 120; given = replicate 120 false }
 abbrev pub blank : Tape
 blank = tapeOf 0 0 0 (zeros 36) (zeros 24) (zeros 6) (zeros 10) (zeros 10) (zeros 10) (zeros 10) noCurves (zeros 6) (pos 0) 0 (pos 0)
 
--- The reference r of a column at a step: the step's own where one is given, else the column's.
-unfoldable pub referenceAt : Tape → ℕ → ℕ → ℤ
-referenceAt t column step =
-    let place = 12 * column + step in
-    cond (marked (t .curves .given) place) (at (t .curves .reference) place) (at (t .reference) column)
+-- The reference r of a column at a step: the step's own where one is given, else the one that the column holds in all steps.
+unfoldable pub stepReference : Curves → List ℤ → ℕ → ℕ → ℤ
+stepReference curves held column step =
+    let place = 12 * column + step in cond (marked (curves .given) place) (at (curves .reference) place) (at held column)
+
+abbrev pub referenceAt : Tape → ℕ → ℕ → ℤ
+referenceAt t column step = stepReference (t .curves) (t .reference) column step
 
 -- ---- Numbers in place of those that are there: a function for each group of fields
 

@@ -30,7 +30,6 @@ loop-holds c = (omega arith, refl, steps-none _ 120 _)
 row-is : (c : tie.After-references-at Inv-loop μ-loop) →
     let turn = c .before .before .before .before .before in
     (q : ℕ) → q < 10 → at (c .references-at .result) q ≡ referenceAt (turn .before .args .t1) q (turn .loop .k)
-unfolding referenceAt
 row-is c = fill-at (c .references-at .ensures)
 
 references-at-requires : tie.Need-references-at-requires Inv-loop μ-loop

@@ -1,6 +1,5 @@
 use Prim.Native.Nat.{_+_, _*_, _-_, _≤_}
 use mathlib.Core.Path.{_≡_, _∙_}
-use mathlib.Core.Bool.{cond}
 use native.Mathlib.Omega.{arith}
 use lib.ListN.{replicate}
 use lib.IntN.{pos}
@@ -8,13 +7,12 @@ use borrow.Author.Needs.{needs}
 use Rattle.integer.specs.Places.{at, Stretch}
 use Rattle.integer.proofs.Places.{stretch-none, fill-store}
 use Rattle.integer.proofs.Sizes.{called}
-use Rattle.commands.specs.Marks.{marked}
+use Rattle.tape.specs.Tape.{stepReference}
 use Rattle.primal.proofs.terms.references_at.Statement.{statement}
 use Rattle.primal.proofs.terms.references_at.Tie as tie
 
 abbrev Inv-loop : tie.InvT-loop
-Inv-loop held k curves row₀ c₀ row c =
-    (c ≤ 10) × Stretch 0 c (λ q. cond (marked (curves .given) (12 * q + k)) (at (curves .reference) (12 * q + k)) (at held q)) (replicate 10 (pos 0)) row
+Inv-loop held k curves row₀ c₀ row c = (c ≤ 10) × Stretch 0 c (λ q. stepReference curves held q k) (replicate 10 (pos 0)) row
 
 abbrev μ-loop : tie.MeasureT-loop
 μ-loop held k curves row₀ c₀ row c = 10 - c
@@ -59,6 +57,7 @@ loop-less : tie.Need-loop-less Inv-loop μ-loop
 loop-less c = search needs
 
 loop-again : tie.Need-loop-again Inv-loop μ-loop
+unfolding stepReference
 loop-again c =
     let turn = c .before .before .before .before .before in
     let a = turn .before .args in

@@ -1,22 +1,46 @@
--- How far commands reach: place and bytes of each, and that bytes behind a command change nothing.
+-- How far commands reach: place and bytes of each, how many bytes all take, and that bytes behind a command change nothing.
 use Prim.Native.Nat.{ℕ, _+_, _<_, _≤_}
 use mathlib.Core.Path.{_≡_, refl}
+use mathlib.Core.Bool.{cond}
 use mathlib.Core.List.{List, _++_}
 use native.Mathlib.Omega.{arith}
+use lib.Dec.{ltb}
 use lib.ListN.{length, length-append, List·getD-append}
+use lib.IntN.{ℤ}
 use borrow.Author.Tests.{lt-ltb, le-ltb, lt-leb}
-use Rattle.integer.specs.Sum.{sumℕ}
 use Rattle.integer.specs.Operand.{operand}
+use Rattle.integer.proofs.Naturals.{sumℕ}
 use Rattle.integer.proofs.Operand.{operand-front}
 use Rattle.commands.specs.declared.Command.{Command}
 use Rattle.commands.specs.declared.Entry.{Entry}
 use Rattle.commands.specs.declared.Entry.the-variants.{State, Input, Drift, Column, Reference, Start, Rounds}
-use Rattle.commands.specs.Format.{whole, sizeCommand, stateCommand, inputCommand, driftCommand, columnCommand, referenceCommand, startCommand, roundsCommand, decoded}
-use Rattle.commands.specs.Format.{bytesOf, placeOf}
-use Rattle.commands.specs.Marks.{driftPlace, columnPlace, startPlace, roundsPlace, referencePlace, placeCount, bytesAt, longestBytes, mostBytes, decidingBytes}
+use Rattle.commands.specs.Format.{whole, pairCommand, sizeCommand, driftCommand, columnCommand, startCommand, roundsCommand, decoded}
+use Rattle.commands.specs.Format.{sizeBytes, bytesOf, placeOf}
+use Rattle.commands.specs.Marks.{driftPlace, columnPlace, startPlace, roundsPlace, referencePlace, placeCount}
 use Rattle.commands.proofs.Tests.{Inside}
 
 -- ---- A command's place and its bytes
+
+-- of the command that gives a place
+unfoldable pub bytesAt : ℕ → ℕ
+bytesAt place =
+    cond (ltb place driftPlace) 5
+    (cond (ltb place columnPlace) 6
+    (cond (ltb place startPlace) 9
+    (cond (ltb place roundsPlace) 4
+    (cond (ltb place referencePlace) 9 5))))
+
+-- of the longest command
+abbrev pub longestBytes : ℕ
+longestBytes = 9
+
+-- The most that can stand before FF, in commands that are accepted: 10, and every place once.
+unfoldable pub mostBytes : ℕ
+mostBytes = sizeBytes + sumℕ placeCount bytesAt
+
+-- So many bytes decide a tape, whatever follows: `decides` in the crate `tape`.
+unfoldable pub decidingBytes : ℕ
+decidingBytes = mostBytes + longestBytes
 
 pub place-below : (e : Entry) → Inside e → placeOf e < placeCount
 place-below (State i j v) h = omega arith
@@ -80,13 +104,9 @@ module _ (xs ys : List ℕ) (at : ℕ) (room : at + longestBytes ≤ length xs) 
   unfolding sizeCommand
   size-same = whole-same 3 (omega arith) (rw (operand-same 1 1 (omega arith), operand-same 1 2 (omega arith), operand-same 1 3 (omega arith)))
 
-  state-same : stateCommand (xs ++ ys) at ≡ stateCommand xs at
-  unfolding stateCommand
-  state-same = whole-same 4 (omega arith) (rw (operand-same 1 1 (omega arith), operand-same 1 2 (omega arith), operand-same 2 3 (omega arith)))
-
-  input-same : inputCommand (xs ++ ys) at ≡ inputCommand xs at
-  unfolding inputCommand
-  input-same = whole-same 4 (omega arith) (rw (operand-same 1 1 (omega arith), operand-same 1 2 (omega arith), operand-same 2 3 (omega arith)))
+  pair-same : (entry : ℕ → ℕ → ℤ → Entry) → pairCommand entry (xs ++ ys) at ≡ pairCommand entry xs at
+  unfolding pairCommand
+  pair-same entry = whole-same 4 (omega arith) (rw (operand-same 1 1 (omega arith), operand-same 1 2 (omega arith), operand-same 2 3 (omega arith)))
 
   drift-same : driftCommand (xs ++ ys) at ≡ driftCommand xs at
   unfolding driftCommand
@@ -104,10 +124,6 @@ module _ (xs ys : List ℕ) (at : ℕ) (room : at + longestBytes ≤ length xs) 
         operand-same 1 8 (omega arith),
       ))
 
-  reference-same : referenceCommand (xs ++ ys) at ≡ referenceCommand xs at
-  unfolding referenceCommand
-  reference-same = whole-same 4 (omega arith) (rw (operand-same 1 1 (omega arith), operand-same 1 2 (omega arith), operand-same 2 3 (omega arith)))
-
   start-same : startCommand (xs ++ ys) at ≡ startCommand xs at
   unfolding startCommand
   start-same = whole-same 3 (omega arith) (rw (operand-same 1 1 (omega arith), operand-same 2 2 (omega arith)))
@@ -119,4 +135,4 @@ module _ (xs ys : List ℕ) (at : ℕ) (room : at + longestBytes ≤ length xs) 
   pub decoded-front : decoded (xs ++ ys) at ≡ decoded xs at
   unfolding decoded
   decoded-front =
-      rw (List·getD-append xs ys 0 at (omega arith), size-same, state-same, input-same, drift-same, column-same, reference-same, start-same, rounds-same)
+      rw (List·getD-append xs ys 0 at (omega arith), size-same, pair-same State, pair-same Input, drift-same, column-same, pair-same Reference, start-same, rounds-same)

@@ -27,17 +27,21 @@ unsignedAt k s p = unsigned (operand k s p)
 abbrev pub signedAt : ℕ → List ℕ → ℕ → ℤ
 signedAt k s p = signed (operand k s p)
 
+-- Two indexes, one byte each, and a number: 2 signed bytes.
+unfoldable pub pairCommand : (ℕ → ℕ → ℤ → Entry) → List ℕ → ℕ → Command
+pairCommand entry s at = whole 4 s at (Give (entry (unsignedAt 1 s (at + 1)) (unsignedAt 1 s (at + 2)) (signedAt 2 s (at + 3))))
+
 -- n, m, N: one byte each
 unfoldable pub sizeCommand : List ℕ → ℕ → Command
 sizeCommand s at = whole 3 s at (Size (unsignedAt 1 s (at + 1)) (unsignedAt 1 s (at + 2)) (unsignedAt 1 s (at + 3)))
 
--- i, j, value: 2 signed bytes
-unfoldable pub stateCommand : List ℕ → ℕ → Command
-stateCommand s at = whole 4 s at (Give (State (unsignedAt 1 s (at + 1)) (unsignedAt 1 s (at + 2)) (signedAt 2 s (at + 3))))
+-- i, j, value: 2 signed
+abbrev pub stateCommand : List ℕ → ℕ → Command
+stateCommand = pairCommand State
 
 -- i, j, value: 2 signed
-unfoldable pub inputCommand : List ℕ → ℕ → Command
-inputCommand s at = whole 4 s at (Give (Input (unsignedAt 1 s (at + 1)) (unsignedAt 1 s (at + 2)) (signedAt 2 s (at + 3))))
+abbrev pub inputCommand : List ℕ → ℕ → Command
+inputCommand = pairCommand Input
 
 -- i, value: 4 signed
 unfoldable pub driftCommand : List ℕ → ℕ → Command
@@ -50,8 +54,8 @@ columnCommand s at =
     (Give (Column (unsignedAt 1 s (at + 1)) (signedAt 2 s (at + 2)) (signedAt 2 s (at + 4)) (signedAt 2 s (at + 6)) (pos (unsignedAt 1 s (at + 8)))))
 
 -- column, step, reference: 2 signed
-unfoldable pub referenceCommand : List ℕ → ℕ → Command
-referenceCommand s at = whole 4 s at (Give (Reference (unsignedAt 1 s (at + 1)) (unsignedAt 1 s (at + 2)) (signedAt 2 s (at + 3))))
+abbrev pub referenceCommand : List ℕ → ℕ → Command
+referenceCommand = pairCommand Reference
 
 -- i, value: 2 signed
 unfoldable pub startCommand : List ℕ → ℕ → Command
@@ -75,7 +79,10 @@ decoded s at =
     (cond (eqb byte 0xFF) End
     Unknown))))))))
 
--- the command byte and its operands
+-- the command byte and its operands: of command 10, and of an entry's
+abbrev pub sizeBytes : ℕ
+sizeBytes = 4
+
 abbrev pub bytesOf : Entry → ℕ
 bytesOf (State i j v) = 5
 bytesOf (Input i j v) = 5

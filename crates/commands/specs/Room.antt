@@ -2,8 +2,7 @@
 use Prim.Native.Nat.{ℕ, _+_, _<_, _≤_}
 use Rattle.commands.specs.declared.Command.{Command}
 use Rattle.commands.specs.declared.Command.the-variants.{Unknown, Cut, Size, Give, End}
-use Rattle.commands.specs.Marks.{sizeBytes}
-use Rattle.commands.specs.Format.{bytesOf}
+use Rattle.commands.specs.Format.{sizeBytes, bytesOf}
 
 abbrev pub Room : ℕ → ℕ → Command → Type 0
 Room at length Unknown = at < length

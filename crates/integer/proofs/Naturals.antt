@@ -1,10 +1,13 @@
--- Sums of natural numbers.
+-- Sums of natural numbers: f 0 + f 1 + .. + f (n − 1).
 use Prim.Native.Nat.{ℕ, zero, suc, _+_, _<_}
 use mathlib.Core.Path.{_≡_, refl, ap₂}
 use mathlib.Core.Logic.{⊎-elim}
 use native.Mathlib.Omega.{arith}
-use Rattle.integer.specs.Sum.{sumℕ}
 use Rattle.integer.proofs.Places.{lt-or-le}
+
+unfoldable pub sumℕ : ℕ → (ℕ → ℕ) → ℕ
+sumℕ zero f = 0
+sumℕ (suc n) f = sumℕ n f + f n
 
 pub sumℕ-cong : (n : ℕ) (f g : ℕ → ℕ) → ((p : ℕ) → p < n → f p ≡ g p) → sumℕ n f ≡ sumℕ n g
 unfolding sumℕ

@@ -10,7 +10,7 @@ use Rattle.integer.specs.Operand.{unsigned, signed}
 use Rattle.integer.specs.Quotient.{_÷_}
 use Rattle.integer.specs.Sum.{sum}
 use Rattle.integer.specs.Tests.{outside, any}
-use Rattle.commands.specs.Format.{sizeCommand, stateCommand, inputCommand, driftCommand, columnCommand, referenceCommand, startCommand, roundsCommand, decoded, wrongSize, beyond, wrongColumn, wrong}
+use Rattle.commands.specs.Format.{pairCommand, sizeCommand, driftCommand, columnCommand, startCommand, roundsCommand, decoded, wrongSize, beyond, wrongColumn, wrong}
 use Rattle.commands.specs.Required.{among, curved, onCurve, required}
 use Rattle.tape.specs.declared.Tape.{Tape}
 use Rattle.tape.specs.Tape.{stepReference}
@@ -92,10 +92,10 @@ curveTable =
     ∷ []
 
 pub figures : map (λ f. f .0) table ≡ map (λ f. f .1) table
-unfolding unsigned signed _÷_ sum sizeCommand stateCommand inputCommand driftCommand columnCommand referenceCommand startCommand roundsCommand decoded wrongSize beyond outside any wrongColumn wrong among curved onCurve required obeySize obeyEntry absent obeyEnd obey next readFrom reading stepReference stateAt modelSum rounded total cost planCost inputSlope adjoint carried stateSlope conjugate tilt piece pieces constant sizes floor larger most ceiling
+unfolding unsigned signed _÷_ sum pairCommand sizeCommand driftCommand columnCommand startCommand roundsCommand decoded wrongSize beyond outside any wrongColumn wrong among curved onCurve required obeySize obeyEntry absent obeyEnd obey next readFrom reading stepReference stateAt modelSum rounded total cost planCost inputSlope adjoint carried stateSlope conjugate tilt piece pieces constant sizes floor larger most ceiling
 figures = refl
 
 -- by itself, since one fact about both tables takes three times as long
 curve-figures : map (λ f. f .0) curveTable ≡ map (λ f. f .1) curveTable
-unfolding unsigned signed _÷_ sum sizeCommand stateCommand inputCommand driftCommand columnCommand referenceCommand startCommand roundsCommand decoded wrongSize beyond outside any wrongColumn wrong among curved onCurve required obeySize obeyEntry absent obeyEnd obey next readFrom reading stepReference stateAt modelSum rounded total cost planCost inputSlope adjoint carried stateSlope conjugate tilt piece pieces constant sizes floor larger most ceiling
+unfolding unsigned signed _÷_ sum pairCommand sizeCommand driftCommand columnCommand startCommand roundsCommand decoded wrongSize beyond outside any wrongColumn wrong among curved onCurve required obeySize obeyEntry absent obeyEnd obey next readFrom reading stepReference stateAt modelSum rounded total cost planCost inputSlope adjoint carried stateSlope conjugate tilt piece pieces constant sizes floor larger most ceiling
 curve-figures = refl

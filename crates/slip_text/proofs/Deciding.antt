@@ -3,7 +3,7 @@ use Prim.Native.Nat.{ℕ}
 use mathlib.Core.Path.{_≡_}
 use mathlib.Core.List.{List}
 use lib.ListN.{take}
-use Rattle.commands.specs.Marks.{decidingBytes}
+use Rattle.commands.proofs.Extent.{decidingBytes}
 use Rattle.tape.proofs.Deciding.{decides}
 use Rattle.solver.specs.Solving.{solving}
 use Rattle.solution.specs.Solution.{solutionOf}

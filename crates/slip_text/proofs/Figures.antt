@@ -10,7 +10,7 @@ use Rattle.integer.specs.Operand.{unsigned, signed}
 use Rattle.integer.specs.Quotient.{_÷_}
 use Rattle.integer.specs.Sum.{sum}
 use Rattle.integer.specs.Tests.{outside, any}
-use Rattle.commands.specs.Format.{sizeCommand, stateCommand, inputCommand, driftCommand, columnCommand, referenceCommand, startCommand, roundsCommand, decoded, wrongSize, beyond, wrongColumn, wrong}
+use Rattle.commands.specs.Format.{pairCommand, sizeCommand, driftCommand, columnCommand, startCommand, roundsCommand, decoded, wrongSize, beyond, wrongColumn, wrong}
 use Rattle.commands.specs.Required.{among, curved, onCurve, required}
 use Rattle.tape.specs.declared.refusal.Refusal.the-variants.{Length}
 use Rattle.tape.specs.Tape.{stepReference}
@@ -50,5 +50,5 @@ table =
     ∷ []
 
 pub figures : map (λ f. f .0) table ≡ map (λ f. text (f .1)) table
-unfolding solutionOf unsigned signed _÷_ sum sizeCommand stateCommand inputCommand driftCommand columnCommand referenceCommand startCommand roundsCommand decoded wrongSize beyond outside wrongColumn wrong among curved onCurve required obeySize obeyEntry absent obeyEnd obey next readFrom reading stepReference stateAt modelSum rounded residual total cost planCost inputSlope adjoint carried stateSlope conjugate tilt piece pieces constant sizes floor larger most ceiling limited listed joined ahead minimiser modelStates dropped verdict ascended rounds solvingOn solving duty any digits
+unfolding solutionOf unsigned signed _÷_ sum pairCommand sizeCommand driftCommand columnCommand startCommand roundsCommand decoded wrongSize beyond outside wrongColumn wrong among curved onCurve required obeySize obeyEntry absent obeyEnd obey next readFrom reading stepReference stateAt modelSum rounded residual total cost planCost inputSlope adjoint carried stateSlope conjugate tilt piece pieces constant sizes floor larger most ceiling limited listed joined ahead minimiser modelStates dropped verdict ascended rounds solvingOn solving duty any digits
 figures = refl

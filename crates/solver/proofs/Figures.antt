@@ -8,7 +8,7 @@ use Rattle.integer.specs.Operand.{unsigned, signed}
 use Rattle.integer.specs.Quotient.{_÷_}
 use Rattle.integer.specs.Sum.{sum}
 use Rattle.integer.specs.Tests.{outside, any}
-use Rattle.commands.specs.Format.{sizeCommand, stateCommand, inputCommand, driftCommand, columnCommand, referenceCommand, startCommand, roundsCommand, decoded, wrongSize, beyond, wrongColumn, wrong}
+use Rattle.commands.specs.Format.{pairCommand, sizeCommand, driftCommand, columnCommand, startCommand, roundsCommand, decoded, wrongSize, beyond, wrongColumn, wrong}
 use Rattle.commands.specs.Required.{among, curved, onCurve, required}
 use Rattle.tape.specs.declared.refusal.Refusal.{Refusal}
 use Rattle.tape.specs.Tape.{stepReference}
@@ -75,5 +75,5 @@ whole =
     ∷ []
 
 pub figures : map (λ f. f .0) whole ≡ map (λ f. f .1) whole
-unfolding unsigned signed _÷_ sum sizeCommand stateCommand inputCommand driftCommand columnCommand referenceCommand startCommand roundsCommand decoded wrongSize beyond outside wrongColumn wrong among curved onCurve required obeySize obeyEntry absent obeyEnd obey next readFrom reading stepReference stateAt modelSum rounded residual total cost planCost inputSlope adjoint carried stateSlope conjugate tilt piece pieces constant sizes floor larger most ceiling limited any first tested stateCheck stepCheck planCheck gapWithin judgedOn judged shownOn shown listed joined ahead minimiser modelStates dropped verdict ascended rounds solvingOn solving
+unfolding unsigned signed _÷_ sum pairCommand sizeCommand driftCommand columnCommand startCommand roundsCommand decoded wrongSize beyond outside wrongColumn wrong among curved onCurve required obeySize obeyEntry absent obeyEnd obey next readFrom reading stepReference stateAt modelSum rounded residual total cost planCost inputSlope adjoint carried stateSlope conjugate tilt piece pieces constant sizes floor larger most ceiling limited any first tested stateCheck stepCheck planCheck gapWithin judgedOn judged shownOn shown listed joined ahead minimiser modelStates dropped verdict ascended rounds solvingOn solving
 figures = refl

@@ -11,8 +11,7 @@ use Rattle.integer.proofs.Places.{lt-or-le}
 use Rattle.commands.specs.declared.Command.{Command}
 use Rattle.commands.specs.declared.Command.the-variants as command
 use Rattle.commands.specs.Format.{decoded}
-use Rattle.commands.specs.Marks.{mostBytes, decidingBytes}
-use Rattle.commands.proofs.Extent.{decoded-front}
+use Rattle.commands.proofs.Extent.{mostBytes, decidingBytes, decoded-front}
 use Rattle.tape.specs.declared.reader.Reader.{Reader}
 use Rattle.tape.specs.declared.reader.Verdict.{Verdict}
 use Rattle.tape.specs.Reading.{obeyEnd, obey, next, readFrom, opened, reading}

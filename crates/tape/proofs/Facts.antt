@@ -24,7 +24,7 @@ use Rattle.commands.specs.declared.Command.{Command}
 use Rattle.commands.specs.declared.Command.the-variants as command
 use Rattle.commands.specs.declared.Entry.{Entry}
 use Rattle.commands.specs.declared.Entry.the-variants.{State, Input, Drift, Column, Reference, Start, Rounds}
-use Rattle.commands.specs.Format.{whole, decoded, sizeCommand, stateCommand, inputCommand, driftCommand, columnCommand, referenceCommand, startCommand, roundsCommand}
+use Rattle.commands.specs.Format.{whole, decoded, pairCommand, sizeCommand, driftCommand, columnCommand, startCommand, roundsCommand}
 use Rattle.commands.specs.Format.{wrongSize, beyond, wrongColumn, wrong, placeOf}
 use Rattle.commands.specs.Marks.{statePlace, inputPlace, driftPlace, columnPlace, startPlace, roundsPlace, referencePlace, placeCount, marked}
 use Rattle.commands.specs.Required.{required}
@@ -58,7 +58,7 @@ data Ranged : Command → Type 0 where
   rounds : {g r w : ℕ} → g < 256 ^ 2 → w < 256 ^ 4 → Ranged (command.Give (Rounds (pos g) r (pos w)))
 
 ranged : (s : List ℕ) (at : ℕ) → Bytes s → Ranged (decoded s at)
-unfolding decoded sizeCommand stateCommand inputCommand driftCommand columnCommand referenceCommand startCommand roundsCommand
+unfolding decoded pairCommand sizeCommand driftCommand columnCommand startCommand roundsCommand
 ranged s at b =
     row 0x10 3 (λ _. size) (row 0x20 4 (λ _. state) (row 0x21 4 (λ _. input) (row 0x22 5 (λ _. drift) (row 0x30 8 (λ _. column) (row 0x31 4 (λ _. reference) (row 0x40 3 (λ _. start)
     (row 0x50 8 (λ h. rounds (unsigned-range 2 s (at + 1) b (omega arith)) (unsigned-range 4 s (at + 5) b (omega arith)))

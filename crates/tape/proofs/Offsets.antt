@@ -9,14 +9,13 @@ use borrow.Author.Tests.{lt-ltb, ltb-false}
 use lib.Dec.{ltb}
 use lib.ListN.{length, set, length-set}
 use lib.Seq.{getD-set-same, getD-set-other}
-use Rattle.integer.specs.Sum.{sumℕ}
-use Rattle.integer.proofs.Naturals.{sumℕ-but-one}
+use Rattle.integer.proofs.Naturals.{sumℕ, sumℕ-but-one}
 use Rattle.integer.proofs.Tests.{none}
 use Rattle.commands.specs.declared.Entry.{Entry}
-use Rattle.commands.specs.Format.{bytesOf, wrongSize, beyond, placeOf}
-use Rattle.commands.specs.Marks.{placeCount, marked, sizeBytes, bytesAt, mostBytes, decidingBytes}
+use Rattle.commands.specs.Format.{sizeBytes, bytesOf, wrongSize, beyond, placeOf}
+use Rattle.commands.specs.Marks.{placeCount, marked}
 use Rattle.commands.proofs.Tests.{inside}
-use Rattle.commands.proofs.Extent.{place-below, some-bytes, bytes-at, deciding-bytes}
+use Rattle.commands.proofs.Extent.{bytesAt, mostBytes, decidingBytes, place-below, some-bytes, bytes-at, deciding-bytes}
 use Rattle.tape.specs.declared.Answer.{Answer}
 use Rattle.tape.specs.declared.Answer.the-variants as answer
 use Rattle.tape.specs.declared.Reading.{Reading}

@@ -13,8 +13,8 @@ use Rattle.commands.specs.declared.Command.{Command}
 use Rattle.commands.specs.declared.Command.the-variants as command
 use Rattle.commands.specs.declared.Entry.{Entry}
 use Rattle.commands.specs.declared.Entry.the-variants.{State, Input, Drift, Column, Reference, Start, Rounds}
-use Rattle.commands.specs.Format.{decoded, bytesOf, wrongSize, beyond, wrong, placeOf}
-use Rattle.commands.specs.Marks.{marked, sizeBytes}
+use Rattle.commands.specs.Format.{decoded, sizeBytes, bytesOf, wrongSize, beyond, wrong, placeOf}
+use Rattle.commands.specs.Marks.{marked}
 use Rattle.commands.specs.Room.{SmallSizes}
 use Rattle.tape.specs.declared.Reading.{Reading}
 use Rattle.tape.specs.declared.Tape.{Tape}

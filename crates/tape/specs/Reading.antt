@@ -8,8 +8,8 @@ use Rattle.integer.specs.Tests.{any}
 use Rattle.commands.specs.declared.Command.{Command}
 use Rattle.commands.specs.declared.Command.the-variants as command
 use Rattle.commands.specs.declared.Entry.{Entry}
-use Rattle.commands.specs.Format.{decoded, bytesOf, wrongSize, beyond, wrong, placeOf}
-use Rattle.commands.specs.Marks.{placeCount, marked, sizeBytes}
+use Rattle.commands.specs.Format.{decoded, sizeBytes, bytesOf, wrongSize, beyond, wrong, placeOf}
+use Rattle.commands.specs.Marks.{placeCount, marked}
 use Rattle.commands.specs.Required.{required}
 use Rattle.tape.specs.declared.Answer.the-variants as answer
 use Rattle.tape.specs.declared.Reading.{Reading}

@@ -2,7 +2,7 @@ use mathlib.Core.Path.{refl}
 use native.Mathlib.Omega.{arith}
 use borrow.Author.Needs.{needs}
 use Rattle.integer.proofs.Sizes.{called}
-use Rattle.commands.specs.Format.{inputCommand}
+use Rattle.commands.specs.Format.{pairCommand}
 use Rattle.commands.proofs.Tests.{cut, uncut}
 use Rattle.commands.proofs.input_entry.Statement.{statement}
 use Rattle.commands.proofs.input_entry.Tie as tie
@@ -11,7 +11,7 @@ sub-if1 : tie.Need-sub-if1
 sub-if1 c = search needs
 
 returns : tie.Need-returns
-unfolding inputCommand
+unfolding pairCommand
 returns c = let s = c .before .before in cut 4 (s .args .s .now) (s .args .at) _ (s .pre) (omega arith)
 
 add-u8-at : tie.Need-add-u8-at
@@ -33,7 +33,7 @@ i16-at-requires : tie.Need-i16-at-requires
 i16-at-requires c κs = search needs
 
 returns-2 : tie.Need-returns-2
-unfolding inputCommand
+unfolding pairCommand
 returns-2 c =
     let a = c .before .before .before .before .before .args in
     let v = c .i16-at in

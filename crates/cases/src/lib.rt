@@ -154,13 +154,13 @@ fn narrow(x: i64) -> i32 {
     x as i32
 }
 
-// Writes a refusal: its number, and what it carries, an offset or R, or `-`.
+// Writes a refusal: its number, and what it carries, a place or R, or `-`.
 pub fn refused(why: Refusal) {
     print::word(b"refused");
     print::unsigned(number(why) as u64);
     let carried = carries(why);
     match carried {
-        Carried::Offset(at) => print::unsigned(at as u64),
+        Carried::Place(at) => print::unsigned(at as u64),
         Carried::Nothing => print::word(b" -"),
         Carried::Rounds(rounds) => print::unsigned(rounds as u64),
     }

@@ -8,6 +8,7 @@ pub mod Quotient
 pub mod Square
 pub mod Limited
 pub mod Operand
+pub mod Encoding
 pub mod Places
 pub mod Naturals
 pub mod Tests

@@ -2,3 +2,6 @@
 pub mod Bounds
 pub mod Product
 pub mod Meaning
+pub mod Tested
+pub mod Output
+pub mod ReadBack

@@ -1,4 +1,4 @@
--- What `imported` says of an entry, over whole numbers.
+-- What `imported` says of an entry, over whole numbers, and the number that it gives.
 use Prim.Native.Nat.{ℕ, _<_, _≤_}
 use mathlib.Core.Path.{_≡_, refl, sym, ap, _∙_, subst}
 use mathlib.Core.Bool.{Bool, true, false, true≢false}
@@ -18,9 +18,14 @@ use Rattle.float.specs.Value.{finite, Finite, numerator, denominator, Equals, f
 use Rattle.float.specs.Nearest.{Nearest}
 use Rattle.float.proofs.Values.{denominator-pos, from-one}
 use Rattle.float.proofs.Rounded.{nearest-from, nearest-below, nearest-by, nearest-is}
+use Rattle.tape.specs.declared.refusal.Refusal.{Refusal}
+use Rattle.tape.specs.declared.refusal.Refusal.the-variants as refusal
 use Rattle.import.specs.Entries.{scaled, number, rest, imported, Rounds, Is, UnderHalf, Left, Exact}
 use Rattle.import.specs.declared.Entry.{Entry}
 use Rattle.import.specs.declared.Entry.the-variants.{Whole, Near, NotFinite, TooLarge}
+use Rattle.import.specs.Models.{numberIn, verdict}
+use Rattle.import.specs.declared.model.Model.{Model}
+use Rattle.import.specs.declared.model.Model.the-variants.{Written, Refused}
 use Rattle.import.proofs.Bounds.{is-nearest}
 use Rattle.import.proofs.Product.{leftover-is, leftover-value}
 
@@ -124,3 +129,31 @@ module _ (a : Float) (g : T (fits binary64 a)) where
       pub near-answers : (natAbs (rest a) ≡ 0 → ⊥) → Answers (Near (number a) (floatOf (rest a) (denominator a)))
       unfolding imported
       near-answers n = answers (Near (number a) (floatOf (rest a) (denominator a))) (rw (f, le-ltb 16384 (natAbs (number a)) l, ne-eqb (natAbs (rest a)) 0 n))
+
+-- ---- The number of an imported entry
+
+is-written : Model → Bool
+is-written Written = true
+is-written (Refused why) = false
+
+pub not-written : (why : Refusal) → Refused why ≡ Written → ⊥
+unfolding is-written
+not-written why e = true≢false (sym (ap is-written e))
+
+-- P of what `imported` gives, from P of each of its cases
+by-case : (P : Entry → Type 0) (a : Float) → P NotFinite → P TooLarge
+    → (natAbs (number a) ≤ 16384 → P (Whole (number a))) → (natAbs (number a) ≤ 16384 → P (Near (number a) (floatOf (rest a) (denominator a)))) → P (imported a)
+unfolding imported
+by-case P a f l w n =
+    by-test P (finite a)
+    (λ e. by-test P (ltb 16384 (natAbs (number a))) (λ t. l)
+    (λ t. let s = ltb-false 16384 (natAbs (number a)) t in by-test P (eqb (natAbs (rest a)) 0) (λ z. w s) (λ z. n s)))
+    (λ e. f)
+
+pub number-small : (a : Float) → natAbs (numberIn (imported a)) ≤ 16384
+number-small a = by-case (λ r. natAbs (numberIn r) ≤ 16384) a (omega arith) (omega arith) (λ s. s) (λ s. s)
+
+pub number-in : (count : ℕ) (a : Float) → verdict count (imported a) ≡ Written → numberIn (imported a) ≡ number a
+number-in count a =
+    by-case (λ r. verdict count r ≡ Written → numberIn r ≡ number a) a
+    (λ e. absurd (not-written (refusal.NotFinite count) e)) (λ e. absurd (not-written (refusal.TooLarge count) e)) (λ s e. refl) (λ s e. refl)

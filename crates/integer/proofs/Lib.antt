@@ -10,5 +10,6 @@ pub mod Limited
 pub mod Operand
 pub mod Encoding
 pub mod Places
+pub mod Middle
 pub mod Naturals
 pub mod Tests

@@ -11,12 +11,15 @@ use lib.ListN.{length, getD, drop, drop-of-length-le}
 use lib.Seq.{drop-cons}
 use lib.Ieee.{Float, nan}
 use borrow.Author.Tests.{ltb-false}
-use Rattle.integer.proofs.Tests.{none}
+use Rattle.integer.proofs.Tests.{none, by-test}
 use Rattle.commands.specs.Format.{wrongSize}
 use Rattle.tape.specs.declared.refusal.Refusal.{Refusal}
 use Rattle.tape.specs.declared.refusal.Refusal.the-variants as refusal
+use Rattle.tape.specs.Refusals.{row, figure}
 use Rattle.import.specs.Entries.{number, imported}
 use Rattle.import.specs.Models.{wrongLength, verdict, first, tested, modelAnswer, numberIn}
+use Rattle.import.specs.declared.Entry.{Entry}
+use Rattle.import.specs.declared.Entry.the-variants.{Whole, Near, NotFinite, TooLarge}
 use Rattle.import.specs.declared.model.Model.{Model}
 use Rattle.import.specs.declared.model.Model.the-variants.{Written, Refused}
 use Rattle.import.proofs.Meaning.{not-written, number-in}
@@ -113,3 +116,33 @@ ready n m a b out e =
     let q = passed-by wrong refusal.Length entries (p .1) in
     let r = first-written (tested 0 a) (tested (length a) b) (q .1) in
     record { sizes = right-size n m (p .0); lengths = right-lengths n m (length a) (length b) out (q .0); states = r .0; inputs = r .1 }
+
+-- ---- What a refusal carries is the count of one of 60 entries at most, or nothing
+
+abbrev pub Counted : ℕ → Model → Type 0
+Counted most Written = Unit {0}
+Counted most (Refused why) = figure (row why .carries) ≤ most
+
+verdict-counted : (most count : ℕ) (r : Entry) → count ≤ most → Counted most (verdict count r)
+verdict-counted most count (Whole k) h = tt
+verdict-counted most count (Near k leftover) h = tt
+verdict-counted most count NotFinite h = h
+verdict-counted most count TooLarge h = h
+
+first-counted : (most : ℕ) (v w : Model) → Counted most v → Counted most w → Counted most (first v w)
+first-counted most Written w h k = k
+first-counted most (Refused why) w h k = h
+
+tested-counted : (most count : ℕ) (l : List Float) → count + length l ≤ most → Counted most (tested count l)
+unfolding tested
+tested-counted most count [] h = tt
+tested-counted most count (a ∷ l) h =
+    first-counted most (verdict count (imported a)) (tested (suc count) l) (verdict-counted most count (imported a) (omega arith)) (tested-counted most (suc count) l (omega arith))
+
+pub answer-counted : (n m : ℕ) (a b : List Float) (out : ℕ) → Counted 60 (modelAnswer n m a b out)
+unfolding modelAnswer
+answer-counted n m a b out =
+    by-test (Counted 60) (wrongSize n m 1) (λ e. omega arith)
+    (λ e. by-test (Counted 60) (wrongLength n m (length a) (length b) out) (λ f. omega arith)
+    (λ f. let l = few n m a b out e f in
+    first-counted 60 (tested 0 a) (tested (length a) b) (tested-counted 60 0 a (omega (arith, l .0))) (tested-counted 60 (length a) b (omega (arith, l .0, l .1)))))

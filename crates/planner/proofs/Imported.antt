@@ -1,0 +1,61 @@
+-- What an import's answers say, over what a caller sees.
+use Prim.Native.Nat.{ℕ, _≤_}
+use mathlib.Core.Path.{_≡_, sym, ap, _∙_, subst}
+use mathlib.Core.List.{List}
+use native.Mathlib.Omega.{arith}
+use lib.ListN.{length}
+use lib.IntN.{ℤ}
+use lib.Ieee.{Float}
+use Rattle.integer.proofs.Order.{order}
+use Rattle.tape.specs.declared.refusal.Refusal.{Refusal}
+use Rattle.tape.specs.Refusals.{row, figure}
+use Rattle.import.specs.declared.Entry.{Entry}
+use Rattle.import.specs.declared.Entry.the-variants.{Whole, Near, NotFinite, TooLarge}
+use Rattle.import.specs.declared.model.Model.{Model}
+use Rattle.import.specs.declared.model.Model.the-variants as model
+use Rattle.import.specs.Entries.{imported, Exact}
+use Rattle.import.specs.Models.{modelAnswer, modelLeft, ReadBack}
+use Rattle.import.proofs.Tested.{Counted, answer-counted}
+use Rattle.planner.specs.Imports.{entryCode, entryLeft, leftoverLeft, ExactBy, modelCode, ReadBackBy}
+use Rattle.planner.proofs.Figures.{Small}
+use Rattle.planner.proofs.Seen.{refused}
+
+-- ---- One entry
+
+exact-by : (a : Float) (r : Entry) (before : List ℤ) (left : List Float) → Exact a r → ExactBy (entryCode r) a (entryLeft r before) (leftoverLeft r left)
+exact-by a (Whole k) before left h = record { whole = λ _ _. h; near = λ _ e. let z : ⊥ = omega (arith, order) in absurd z; not-finite = λ e. let z : ⊥ = omega arith in absurd z; too-large = λ e. let z : ⊥ = omega arith in absurd z }
+exact-by a (Near k leftover) before left h = record { whole = λ _ e. let z : ⊥ = omega (arith, order) in absurd z; near = λ _ _. h; not-finite = λ e. let z : ⊥ = omega arith in absurd z; too-large = λ e. let z : ⊥ = omega arith in absurd z }
+exact-by a NotFinite before left h = record { whole = λ e. let z : ⊥ = omega arith in absurd z; near = λ e. let z : ⊥ = omega arith in absurd z; not-finite = λ _. h; too-large = λ e. let z : ⊥ = omega arith in absurd z }
+exact-by a TooLarge before left h = record { whole = λ e. let z : ⊥ = omega arith in absurd z; near = λ e. let z : ⊥ = omega arith in absurd z; not-finite = λ e. let z : ⊥ = omega arith in absurd z; too-large = λ _. h }
+
+-- from what `import_entry` gave, found to be r
+pub entry-promise : (a : Float) (r : Entry) {given : Entry} {number : ℕ} (before : List ℤ) (left : List Float) {out : List ℤ} {leftover : List Float} →
+    (given ≡ imported a) × Exact a given → given ≡ r → number ≡ entryCode r → out ≡ entryLeft r before → leftover ≡ leftoverLeft r left →
+    (number ≡ entryCode (imported a)) × ((out ≡ entryLeft (imported a) before) × ((leftover ≡ leftoverLeft (imported a) left) × ExactBy number a out leftover))
+entry-promise a r before left h e n o l =
+    let i : r ≡ imported a = sym e ∙ h .0 in (
+      n ∙ ap entryCode i,
+      (
+        o ∙ ap (λ (e : Entry). entryLeft e before) i,
+        (l ∙ ap (λ (e : Entry). leftoverLeft e left) i, rw (n, o, l) (exact-by a r before left (subst (Exact a) e (h .1)))),
+      ),
+    )
+
+-- ---- A model
+
+pub small-model : (n m : ℕ) (a b : List Float) (out : ℕ) (why : Refusal) → modelAnswer n m a b out ≡ model.Refused why → Small why
+small-model n m a b out why e = let h : figure (row why .carries) ≤ 60 = rw e at (answer-counted n m a b out) in omega arith
+
+read-back-by : (r : Model) (n m : ℕ) (a b : List Float) (out : List ℕ) → ReadBack r n m a b out → ReadBackBy (modelCode r) n m a b out
+read-back-by model.Written n m a b out h = record { readable = λ _. h }
+read-back-by (model.Refused why) n m a b out h = record { readable = λ e. absurd (refused why e) }
+
+-- from what `import_model` gave
+pub model-promise : (n m : ℕ) (a b : List Float) (before : List ℕ) (r : Model) {given : Model} {number : ℕ} {out : List ℕ} → let answer = modelAnswer n m a b (length before) in
+    (given ≡ answer) × ((out ≡ modelLeft given n m a b before) × ReadBack given n m a b out) → given ≡ r → number ≡ modelCode r →
+    (number ≡ modelCode answer) × ((out ≡ modelLeft answer n m a b before) × ReadBackBy number n m a b out)
+model-promise n m a b before r {out = out} h e c =
+    let i = sym e ∙ h .0 in (
+      c ∙ ap modelCode i,
+      (h .1 .0 ∙ ap (λ (v : Model). modelLeft v n m a b before) (h .0), rw c (read-back-by r n m a b out (subst (λ (v : Model). ReadBack v n m a b out) e (h .1 .1)))),
+    )

@@ -11,7 +11,7 @@ use lib.IntN.{ℤ, pos, negsuc, natAbs, _+ℤ_}
 use lib.Ieee.{Float, nan}
 use borrow.Rule.Slice.PartMut.{putMid, mid-len}
 use Rattle.integer.specs.Order.{_≼_, _≺_}
-use Rattle.integer.specs.Encoding.{unsignedBytes, complement, signedBytes}
+use Rattle.integer.specs.Encoding.{unsignedBytes, complement}
 use Rattle.integer.proofs.Parts.{plus}
 use Rattle.integer.proofs.Order.{order, lt→}
 use Rattle.integer.proofs.Sizes.{size-parts}

@@ -1,5 +1,5 @@
 -- 4096 times an entry that is not refused is exact in floats; so are the test against its nearest whole number and the difference.
-use Prim.Native.Nat.{ℕ, _*_, _^_, _<_, _≤_}
+use Prim.Native.Nat.{_*_, _^_, _<_, _≤_}
 use mathlib.Core.Path.{_≡_, sym, ap, _∙_}
 use mathlib.Core.Bool.{true, false}
 use native.Mathlib.Omega.{arith}
@@ -19,7 +19,7 @@ use Rattle.float.proofs.Exact.{exact-4096, shape, few-digits, sub-is}
 use Rattle.float.proofs.Rounded.{nearest-exists, nearest-is, nearest-same, nearest-left}
 use Rattle.float.proofs.Whole.{whole-value, whole-over, less-whole, few}
 use Rattle.import.specs.Entries.{scaled, number, rest, Is}
-use Rattle.import.proofs.Bounds.{is-nearest, below-5}
+use Rattle.import.proofs.Bounds.{below-5}
 
 abbrev pub product : Float → Float
 product a = mul binary64 a (fin false 1 (pos 12))

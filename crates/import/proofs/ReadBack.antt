@@ -1,5 +1,5 @@
 -- Commands that were written are decoded as they were meant, whatever stands before and behind them.
-use Prim.Native.Nat.{ℕ, suc, _+_, _*_, _/_, _%_, _<_, _≤_}
+use Prim.Native.Nat.{ℕ, _+_, _*_, _/_, _%_, _<_, _≤_}
 use mathlib.Core.Path.{_≡_, refl, sym, ap, ap₂, _∙_, subst}
 use mathlib.Core.Bool.{false}
 use mathlib.Core.List.{List, [], _∷_, _++_, append-assoc}
@@ -8,12 +8,11 @@ use native.Mathlib.Nat.{mul-add-div, div-eq-of-lt, mul-add-mod-self-left, mod-eq
 use native.Mathlib.Numerals.{add-one}
 use lib.ListN.{length, getD, take, drop, length-append, take-append-drop}
 use lib.Seq.{drop-cons, length-take-le, getD-append-seam}
-use lib.IntN.{ℤ, pos, negℤ, natAbs, _*ℤ_}
+use lib.IntN.{ℤ, pos, negℤ, natAbs}
 use lib.Ieee.{Float, nan}
 use borrow.Author.Tests.{lt-leb}
-use Rattle.integer.specs.Order.{_≼_, _≺_}
 use Rattle.integer.specs.Operand.{unsigned, operand}
-use Rattle.integer.specs.Encoding.{unsignedBytes, complement, signedBytes}
+use Rattle.integer.specs.Encoding.{unsignedBytes, signedBytes}
 use Rattle.integer.proofs.Parts.{negated, times}
 use Rattle.integer.proofs.Order.{order}
 use Rattle.integer.proofs.Sizes.{size-parts, size-low, size-high}
@@ -21,7 +20,6 @@ use Rattle.integer.proofs.Operand.{operand-behind}
 use Rattle.integer.proofs.Encoding.{signed-back}
 use Rattle.integer.proofs.Tests.{not-outside}
 use Rattle.integer.proofs.Places.{step-room}
-use Rattle.commands.specs.declared.Command.{Command}
 use Rattle.commands.specs.declared.Command.the-variants.{Give}
 use Rattle.commands.specs.declared.Entry.{Entry}
 use Rattle.commands.specs.declared.Entry.the-variants.{State, Input}

@@ -1,5 +1,5 @@
 -- Document 02, request 2: one entry a of the identification tool's A and B. A finite float is numerator a / denominator a.
-use Prim.Native.Nat.{ℕ, _≤_, _<_}
+use Prim.Native.Nat.{_≤_, _<_}
 use mathlib.Core.Bool.{cond}
 use mathlib.Core.Path.{_≡_}
 use lib.Dec.{eqb, ltb}

@@ -15,7 +15,7 @@ use Rattle.import.specs.declared.model.Model.{Model}
 use Rattle.import.specs.declared.model.Model.the-variants as model
 use Rattle.import.specs.Entries.{imported, Exact}
 use Rattle.import.specs.Models.{modelAnswer, modelLeft, ReadBack}
-use Rattle.import.proofs.Tested.{Counted, answer-counted}
+use Rattle.import.proofs.Tested.{answer-counted}
 use Rattle.planner.specs.Imports.{entryCode, entryLeft, leftoverLeft, ExactBy, modelCode, ReadBackBy}
 use Rattle.planner.proofs.Figures.{Small}
 use Rattle.planner.proofs.Seen.{refused}

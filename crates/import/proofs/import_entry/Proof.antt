@@ -1,16 +1,14 @@
 -- `import::import_entry` meets its contract: each test is one of exact numbers.
-use mathlib.Core.Path.{_≡_, sym, ap, _∙_, subst}
+use mathlib.Core.Path.{_≡_, _∙_, subst}
 use mathlib.Core.Bool.{true, false}
 use native.Mathlib.Omega.{arith}
 use native.Mathlib.Nat.{le-trans}
-use lib.Dec.{T}
-use lib.IntN.{ℤ, pos, natAbs}
-use lib.Ieee.{fin, binary64, eq, mul, sub, neg, ofInt, ofBits, ofFields, odd, span, climb, size, units}
+use lib.IntN.{ℤ}
+use lib.Ieee.{binary64, eq, neg, ofInt, ofBits, ofFields, odd, span, climb, size, units}
 use Rattle.integer.proofs.Sizes.{called}
-use Rattle.float.specs.Value.{finite, Finite, denominator, floatOf}
 use Rattle.float.proofs.Signs.{passed}
 use Rattle.float.proofs.Whole.{whole-fits}
-use Rattle.import.specs.Entries.{number, rest}
+use Rattle.import.specs.Entries.{number}
 use Rattle.import.proofs.Bounds.{finite-of, not-finite, too-high, too-low, within}
 use Rattle.import.proofs.Product.{product, product-within, product-number, is-whole, not-whole, leftover-is}
 use Rattle.import.proofs.Meaning.{nothing-left, is-number, not-finite-answers, large-answers, whole-answers, near-answers}

@@ -1,11 +1,9 @@
 -- `import::model::import_model` meets its contract.
-use mathlib.Core.Path.{_≡_, refl, sym, ap, _∙_, subst}
-use mathlib.Core.List.{List}
+use mathlib.Core.Path.{refl, sym, _∙_, subst}
 use native.Mathlib.Omega.{arith}
 use denote.Ref.{now}
 use lib.ListN.{length}
 use borrow.Author.Needs.{needs}
-use Prim.Native.Nat.{ℕ}
 use Rattle.import.specs.Models.{Readable}
 use Rattle.import.proofs.Tested.{ready, square-small, product-small}
 use Rattle.import.proofs.ReadBack.{readable}

@@ -1,7 +1,7 @@
 -- `import::model::write_command` meets its contract.
 use Prim.Native.Nat.{ℕ, _/_, _%_}
-use mathlib.Core.Path.{sym, ap, _∙_}
-use mathlib.Core.List.{List, [], _∷_}
+use mathlib.Core.Path.{ap, _∙_}
+use mathlib.Core.List.{List, _∷_}
 use mir.Facts.{toZ-ofZ}
 use Rattle.integer.specs.Encoding.{unsignedBytes, complement}
 use Rattle.import.proofs.Output.{two-bytes, four-sets, filled}

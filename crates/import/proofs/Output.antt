@@ -9,7 +9,7 @@ use lib.ListN.{length, getD, set, take, drop, length-append, length-set, length-
 use lib.Seq.{take-suc, take-at, length-take-le}
 use lib.IntN.{ℤ, pos, negsuc, natAbs, _+ℤ_}
 use lib.Ieee.{Float, nan}
-use borrow.Rule.Slice.PartMut.{putMid, mid-len}
+use borrow.Rule.Slice.PartMut.{putMid}
 use Rattle.integer.specs.Order.{_≼_, _≺_}
 use Rattle.integer.specs.Encoding.{unsignedBytes, complement}
 use Rattle.integer.proofs.Parts.{plus}
@@ -102,15 +102,8 @@ commands-next byte columns l i h =
 
 -- ---- Two parts that fill a list
 
-module _ {X : Type 0} (A B : ℕ) (out P : List X) (o : length out ≡ A + B) (p : length P ≡ A) where
-  pub whole-length : length (P ++ drop A out) ≡ A + B
-  whole-length = length-append P (drop A out) ∙ (omega (arith, length-drop A out))
-
-  pub rest-length : length (take (length (P ++ drop A out) - A) (drop A (P ++ drop A out))) ≡ B
-  rest-length = mid-len A (length (P ++ drop A out)) (P ++ drop A out) (omega arith) ∙ (omega (arith, whole-length))
-
-  pub two-parts : (Q : List X) → putMid A (length (P ++ drop A out) - A) (P ++ drop A out) Q ≡ P ++ Q
-  two-parts Q =
-      let w = P ++ drop A out in
-      let d : drop (length w - A) (drop A w) ≡ [] = drop-of-length-le (drop A w) {i = length w - A} (omega (arith, length-drop A w)) in
-      rw (take-at P (drop A out) A p, d, append-nil Q)
+pub two-parts : {X : Type 0} (A : ℕ) (out P Q : List X) → length P ≡ A → putMid A (length (P ++ drop A out) - A) (P ++ drop A out) Q ≡ P ++ Q
+two-parts A out P Q p =
+    let w = P ++ drop A out in
+    let d : drop (length w - A) (drop A w) ≡ [] = drop-of-length-le (drop A w) {i = length w - A} (omega (arith, length-drop A w)) in
+    rw (take-at P (drop A out) A p, d, append-nil Q)

@@ -49,7 +49,7 @@ returns c =
     let p = c .before .before .before .before .before .before .write-commands in
     let q = c .before .before .write-commands2 in
     let l : length (p .last .0) ≡ 5 * length a = ap length (p .ensures) ∙ commands-length 0x20 (s .args .n) 0 a in
-    two-parts (5 * length a) (5 * length (now (s .args .b))) (now (s .args .out)) (p .last .0) (s .pre .0) l (q .last .0) ∙ ap₂ _++_ (p .ensures) (q .ensures)
+    two-parts (5 * length a) (now (s .args .out)) (p .last .0) (q .last .0) l ∙ ap₂ _++_ (p .ensures) (q .ensures)
 
 pub write-model-spec : {M : Type 1} → statement M
 write-model-spec =

@@ -56,10 +56,12 @@ reference expect < CASES
                                           unsigned and as signed
 
 reference generate [COUNT [SEED]]
-    Makes COUNT (10000) cases from the seeds SEED (0), SEED + 1, .., runs them through all
-    calls and writes how often each answer and each refusal came, how often 'proved' and
-    'impossible' came by rounds, sizes, rare shapes and curves, and how often a command 31
-    brought a refusal about. Fails if a count is 0, which is to be expected of a small COUNT.
+    Makes COUNT (10000) cases from the seeds SEED (0), SEED + 1, .., and for each seed 50
+    entries and 2 models in floats, runs them through all calls and writes how often each answer
+    and each refusal came, how often 'proved' and 'impossible' came by rounds, sizes, rare shapes
+    and curves, how often a command 31 brought a refusal about, and answers to entries and models
+    by kinds, sizes and rare shapes. Fails if a count is 0, which is to be expected of a small
+    COUNT.
 ";
 
 fn main() -> ExitCode {

@@ -43,9 +43,9 @@ impl Model {
         [self.a.as_slice(), &self.b].concat()
     }
 
-    /// Do all slices have the lengths that the sizes ask for? They are small.
-    pub fn has_its_lengths(&self) -> bool {
-        [self.a.len(), self.b.len(), self.out.len()] == lengths(self.states, self.inputs)
+    /// The lengths of A, B and the output as they are lent.
+    pub fn lengths(&self) -> [usize; 3] {
+        [self.a.len(), self.b.len(), self.out.len()]
     }
 
     /// Puts an entry at a count, A before B.
@@ -58,7 +58,7 @@ impl Model {
     }
 }
 
-/// The lengths of A, B and the output for sizes that are small.
+/// The lengths of A, B and the output that sizes ask for. The sizes are small.
 pub fn lengths(states: usize, inputs: usize) -> [usize; 3] {
     let (of_a, of_b) = (states * states, states * inputs);
     [of_a, of_b, 5 * (of_a + of_b)]
@@ -143,10 +143,12 @@ fn damage_lengths(model: &mut Model, random: &mut Random) {
         2 => 0,
         _ => random.below(2 * length + 10),
     };
-    match random.below(3) {
+    match random.below(4) {
         0 => model.a.resize(length(model.a.len(), random), 1.0),
         1 => model.b.resize(length(model.b.len(), random), 1.0),
-        _ => model.out.resize(length(model.out.len(), random), 1),
+        2 => model.out.resize(length(model.out.len(), random), 1),
+        // As many in all.
+        _ => model.b.extend(model.a.pop()),
     }
 }
 

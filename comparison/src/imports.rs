@@ -188,6 +188,12 @@ impl Comparison {
         answer
     }
 
+    /// Imports an entry that is counted apart from the generated ones.
+    fn also_entry(&mut self, entry: f64) {
+        self.add_also(ENTRIES);
+        let _answer = self.import_entry(entry);
+    }
+
     /// Imports a model that is counted apart from the generated ones.
     fn also_model(&mut self, origin: &str, model: &Model) {
         self.add_also(origin);
@@ -227,7 +233,7 @@ fn placed(model: &Model) -> Vec<i64> {
 }
 
 /// Entries whose 4096-folds are beside every whole number and every half up to beyond the range, and
-/// beside every power of two.
+/// beside every power of two; and those that are no neighbour of any.
 pub fn add_entries(comparison: &mut Comparison) {
     let halves = (-2 * BEYOND..=2 * BEYOND).map(|halves| f64::from(halves) / 8192.0);
     let subnormal = (0..52).map(|place| f64::from_bits(1 << place));
@@ -235,14 +241,20 @@ pub fn add_entries(comparison: &mut Comparison) {
     let powers = subnormal.chain(normal).flat_map(|power| [power, -power]);
     for entry in halves.chain(powers) {
         for floats in -3..=3 {
-            comparison.add_also(ENTRIES);
-            let _answer = comparison.import_entry(moved(entry, floats));
+            comparison.also_entry(moved(entry, floats));
         }
         if comparison.ends() {
             return;
         }
     }
+    for entry in [0.0, f64::INFINITY, f64::NAN, f64::from_bits(SIGNALLING)] {
+        comparison.also_entry(entry);
+        comparison.also_entry(-entry);
+    }
 }
+
+/// Not a number, and signalling, with the least of digits.
+const SIGNALLING: u64 = 0x7ff0_0000_0000_0001;
 
 /// Models of all sizes, with each slice of every length while the others have theirs, of sizes
 /// beside the range and far outside, and with faulty entries at every place.

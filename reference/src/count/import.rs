@@ -6,6 +6,7 @@ use super::{answers, refused, up_to, Counts};
 use crate::generate::models::lengths;
 use crate::generate::{entries, models, EntryKind, GeneratedEntry, Model};
 use crate::import::{import_entry, import_model, Entry};
+use crate::model::Whole;
 use crate::refusal::Refusal;
 use crate::tape::{ENTRY_RANGE, MOST_INPUTS, MOST_STATES};
 
@@ -18,11 +19,11 @@ const RARE_ENTRIES: &str = "import entry, shape";
 /// The heading of models in which several things are wrong.
 const RARE_MODELS: &str = "import model, shape";
 
-/// A shape of imported entries: its name, and whether an entry with its answer has it.
-type EntryShape = (&'static str, fn(f64, Entry) -> bool);
+/// A shape of entries: its name, and whether an entry that gives this result, if any, has it.
+type EntryShape = (&'static str, fn(f64, Option<Entry>) -> bool);
 
 /// The shapes of entries that are counted.
-const ENTRY_SHAPES: [EntryShape; 8] = [
+const ENTRY_SHAPES: [EntryShape; 13] = [
     ("leftover -1/2", |_, entry| leftover(entry) == Some(-0.5)),
     ("leftover next below 1/2", |_, entry| {
         leftover(entry) == Some(0.5_f64.next_down())
@@ -34,10 +35,28 @@ const ENTRY_SHAPES: [EntryShape; 8] = [
         4096.0 * a == 0.5_f64.next_down()
     }),
     ("4096a = -16384.5", |a, _| 4096.0 * a == -16_384.5),
+    ("4096a = 16384.5", |a, _| 4096.0 * a == 16_384.5),
+    ("4096a beyond floats", |a, _| {
+        a.is_finite() && (4096.0 * a).is_infinite()
+    }),
+    ("number 16384", |_, entry| {
+        number(entry) == Some(ENTRY_RANGE)
+    }),
+    ("number -16384", |_, entry| {
+        number(entry) == Some(-ENTRY_RANGE)
+    }),
     ("negative zero", |a, _| a == 0.0 && a.is_sign_negative()),
-    ("number 16384", |_, entry| entry.number() == ENTRY_RANGE),
-    ("number -16384", |_, entry| entry.number() == -ENTRY_RANGE),
+    ("negative infinity", |a, _| a == f64::NEG_INFINITY),
+    ("not a number, negative", |a, _| {
+        a.is_nan() && a.is_sign_negative()
+    }),
+    ("not a number, signalling", |a, _| {
+        a.is_nan() && a.to_bits() & QUIET == 0
+    }),
 ];
+
+/// The bit of a quiet one that is not a number.
+const QUIET: u64 = 1 << 51;
 
 /// A shape of refused models: its name, and whether a model has it, given the refusals of its
 /// entries in order.
@@ -85,9 +104,14 @@ const MODEL_SHAPES: [ModelShape; 11] = [
     }),
 ];
 
+/// The number of an entry that has one.
+fn number(entry: Option<Entry>) -> Option<Whole> {
+    entry.map(Entry::number)
+}
+
 /// The leftover of an entry that is near a number.
-fn leftover(entry: Entry) -> Option<f64> {
-    match entry {
+fn leftover(entry: Option<Entry>) -> Option<f64> {
+    match entry? {
         Entry::Whole(_) => None,
         Entry::Near { leftover, .. } => Some(leftover),
     }
@@ -181,11 +205,9 @@ impl Counts {
         if expected {
             self.add(&heading(generated.kind), &name);
         }
-        if let Ok(entry) = answer {
-            for (name, has) in ENTRY_SHAPES {
-                if has(generated.entry, entry) {
-                    self.add(RARE_ENTRIES, name);
-                }
+        for (name, has) in ENTRY_SHAPES {
+            if has(generated.entry, answer.ok()) {
+                self.add(RARE_ENTRIES, name);
             }
         }
     }

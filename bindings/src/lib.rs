@@ -367,7 +367,7 @@ pub fn solve(tape: &[u8], plan: &mut [i32], multipliers: &mut [i32]) -> Result<S
 /// use fibergravel::{import_entry, Entry, Refusal};
 ///
 /// assert_eq!(import_entry(0.5), Ok(Entry::Whole(2048)));
-/// // 4096 × 0.2 is 819.2; the leftover is exact, as the float is that comes nearest to 0.2.
+/// // 4096 × 0.2 is near 819; what is left over is exact.
 /// let Ok(Entry::Near { number, leftover }) = import_entry(0.2) else {
 ///     panic!("0.2 is near a whole number")
 /// };
@@ -462,11 +462,11 @@ fn model_refusal(answer: u64, entries: usize) -> Refusal {
     }
 }
 
-/// Nothing for the answer 0, else the refusal.
+/// Nothing for the answer 0, else the refusal, of a call that takes a tape.
 fn accepted(answer: u64) -> Result<(), Refusal> {
     match Refusal::from_answer(answer) {
         None if answer == 0 => Ok(()),
-        None => wrong_library(),
+        None | Some(Refusal::NotFinite { .. } | Refusal::TooLarge { .. }) => wrong_library(),
         Some(refusal) => Err(refusal),
     }
 }
@@ -511,7 +511,7 @@ mod tests {
 
     #[test]
     fn what_no_planner_answers_panics() {
-        for answer in [18, 9 + 256, u64::MAX] {
+        for answer in [16, 17 + 256, 18, 9 + 256, u64::MAX] {
             assert!(catch_unwind(|| accepted(answer)).is_err());
         }
         for answer in [0, 5, 9, 15, 16 + 256, 17 + 256, u64::MAX] {

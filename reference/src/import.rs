@@ -9,6 +9,27 @@ use crate::model::{floor_div, Whole};
 use crate::refusal::Refusal;
 use crate::tape::{ENTRY_RANGE, INPUT_ENTRY, MOST_INPUTS, MOST_STATES, STATE_ENTRY};
 
+/// Bytes of a command 20 or 21.
+const COMMAND_BYTES: usize = 5;
+
+/// 4096 is 2^12.
+const SCALE_POWER: i32 = 12;
+
+/// Digits at a power below this one are worth less than 1/2 in all.
+const SMALL_POWER: i32 = -60;
+
+/// The low bits of a float, which hold all its digits but the first.
+const DIGIT_BITS: u32 = 52;
+
+/// The first digit, which is not written.
+const FIRST_DIGIT: Whole = 1 << DIGIT_BITS;
+
+/// The exponent has 11 bits. All ones is that of infinities and of what is no number.
+const EXPONENTS: u64 = 2048;
+
+/// The power of two of the last digit where the exponent is 0 or 1; one more for each further.
+const LEAST_POWER: i32 = -1074;
+
 /// An imported entry a.
 #[derive(Clone, Copy, Debug, PartialEq)]
 pub enum Entry {
@@ -31,9 +52,6 @@ impl Entry {
         }
     }
 }
-
-/// Bytes of a command 20 or 21.
-const COMMAND_BYTES: usize = 5;
 
 /// Imports one entry alone. Its refusals, 16 and 17, carry nothing.
 pub fn import_entry(a: f64) -> Result<Entry, Refusal> {
@@ -121,24 +139,6 @@ fn command(byte: u8, i: usize, j: usize, number: Whole) -> [u8; COMMAND_BYTES] {
     let (low, high) = (value % 0x100, value / 0x100);
     [byte, i as u8, j as u8, low as u8, high as u8]
 }
-
-/// 4096 is 2^12.
-const SCALE_POWER: i32 = 12;
-
-/// Digits at a power below this one are worth less than 1/2 in all.
-const SMALL_POWER: i32 = -60;
-
-/// The low bits of a float, which hold all its digits but the first.
-const DIGIT_BITS: u32 = 52;
-
-/// The first digit, which is not written.
-const FIRST_DIGIT: Whole = 1 << DIGIT_BITS;
-
-/// The exponent has 11 bits. All ones is that of infinities and of what is no number.
-const EXPONENTS: u64 = 2048;
-
-/// The power of two of the last digit where the exponent is 0 or 1; one more for each further.
-const LEAST_POWER: i32 = -1074;
 
 /// A finite float: `digits` × 2^`power`, with `digits` below 2^53 in size. Both zeros have digits 0.
 struct Parts {

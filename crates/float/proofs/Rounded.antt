@@ -38,8 +38,10 @@ nearest-exists p d D =
     let k = nearestWhole p d in
     let z = pos 2 *ℤ p +ℤ pos d in
     let u = k *ℤ pos d in
-    let l = rw (ring 2 (λ k d. K 2 ⊗ d ⊗ k ≐ K 2 ⊗ (k ⊗ d)) tt k (pos d)) at (quotient-low z (pos 2 *ℤ pos d) (twice-pos d D)) in
-    let h = rw (ring 2 (λ k d. K 2 ⊗ d ⊗ (k ⊕ K 1) ≐ K 2 ⊗ (k ⊗ d) ⊕ K 2 ⊗ d) tt k (pos d)) at (quotient-high z (pos 2 *ℤ pos d) (twice-pos d D)) in
+    let low : pos 2 *ℤ pos d *ℤ k ≼ z = quotient-low z (pos 2 *ℤ pos d) (twice-pos d D) in
+    let high : z ≺ pos 2 *ℤ pos d *ℤ (k +ℤ pos 1) = quotient-high z (pos 2 *ℤ pos d) (twice-pos d D) in
+    let l = rw (ring 2 (λ k d. K 2 ⊗ d ⊗ k ≐ K 2 ⊗ (k ⊗ d)) tt k (pos d)) at low in
+    let h = rw (ring 2 (λ k d. K 2 ⊗ d ⊗ (k ⊕ K 1) ≐ K 2 ⊗ (k ⊗ d) ⊕ K 2 ⊗ d) tt k (pos d)) at high in
     nearest-by
     (omega (arith, order, le→ l, plus (pos 2 *ℤ p) (pos d), minus (pos 2 *ℤ u) (pos d)))
     (omega (arith, order, lt→ h, plus (pos 2 *ℤ p) (pos d), plus (pos 2 *ℤ u) (pos d), plus (pos 2 *ℤ u) (pos 2 *ℤ pos d)))

@@ -1,6 +1,6 @@
 -- What `imported` says of an entry, over whole numbers, and the number that it gives.
 use Prim.Native.Nat.{ℕ, _<_, _≤_}
-use mathlib.Core.Path.{_≡_, refl, sym, ap, _∙_, subst}
+use mathlib.Core.Path.{_≡_, refl, sym, ap, ap₂, _∙_, subst}
 use mathlib.Core.Bool.{Bool, true, false, true≢false}
 use native.Mathlib.Omega.{arith}
 use lib.Dec.{T, eqb, ltb}
@@ -122,13 +122,19 @@ module _ (a : Float) (g : T (fits binary64 a)) where
     large-answers l = answers TooLarge (rw (f, lt-ltb 16384 (natAbs (number a)) l))
 
     module _ (l : natAbs (number a) ≤ 16384) where
-      pub whole-answers : natAbs (rest a) ≡ 0 → Answers (Whole (number a))
+      whole-imported : natAbs (rest a) ≡ 0 → Whole (number a) ≡ imported a
       unfolding imported
-      whole-answers e = answers (Whole (number a)) (rw (f, le-ltb 16384 (natAbs (number a)) l, eq-eqb (natAbs (rest a)) 0 e))
+      whole-imported z = rw (f, le-ltb 16384 (natAbs (number a)) l, eq-eqb (natAbs (rest a)) 0 z)
 
-      pub near-answers : (natAbs (rest a) ≡ 0 → ⊥) → Answers (Near (number a) (floatOf (rest a) (denominator a)))
+      pub whole-answers : natAbs (rest a) ≡ 0 → {k : ℤ} → k ≡ number a → Answers (Whole k)
+      whole-answers z {k} e = answers (Whole k) (ap Whole e ∙ whole-imported z)
+
+      near-imported : (natAbs (rest a) ≡ 0 → ⊥) → Near (number a) (floatOf (rest a) (denominator a)) ≡ imported a
       unfolding imported
-      near-answers n = answers (Near (number a) (floatOf (rest a) (denominator a))) (rw (f, le-ltb 16384 (natAbs (number a)) l, ne-eqb (natAbs (rest a)) 0 n))
+      near-imported n = rw (f, le-ltb 16384 (natAbs (number a)) l, ne-eqb (natAbs (rest a)) 0 n)
+
+      pub near-answers : (natAbs (rest a) ≡ 0 → ⊥) → {k : ℤ} {leftover : Float} → k ≡ number a → leftover ≡ floatOf (rest a) (denominator a) → Answers (Near k leftover)
+      near-answers n {k} {leftover} e x = answers (Near k leftover) (ap₂ Near e x ∙ near-imported n)
 
 -- ---- The number of an imported entry
 

@@ -1,10 +1,10 @@
 -- `import::import_entry` meets its contract: each test is one of exact numbers.
-use mathlib.Core.Path.{_≡_, _∙_, subst}
+use mathlib.Core.Path.{_≡_, ap, _∙_, subst}
 use mathlib.Core.Bool.{true, false}
 use native.Mathlib.Omega.{arith}
 use native.Mathlib.Nat.{le-trans}
 use lib.IntN.{ℤ}
-use lib.Ieee.{binary64, eq, neg, ofInt, ofBits, ofFields, odd, span, climb, size, units}
+use lib.Ieee.{binary64, eq, sub, neg, ofInt, ofBits, ofFields, odd, span, climb, size, units}
 use Rattle.integer.proofs.Sizes.{called}
 use Rattle.float.proofs.Signs.{passed}
 use Rattle.float.proofs.Whole.{whole-fits}
@@ -71,7 +71,7 @@ returns-4 c =
     let n = c .before .before .nearest in
     let b = called (n .result) (n .ok) ∙ n .ensures ∙ product-number a f g l in
     let t = subst (λ (z : ℤ). eq (product a) (ofInt binary64 z) ≡ true) b (c .if4 .taken) in
-    rw b (whole-answers a g h l (nothing-left a f (is-whole a f g l t)))
+    whole-answers a g h l (nothing-left a f (is-whole a f g l t)) b
 
 returns-5 : tie.Need-returns-5
 unfolding ofBits ofFields odd span climb size units neg
@@ -87,7 +87,7 @@ returns-5 c =
     let b = called (n .result) (n .ok) ∙ n .ensures ∙ product-number a f g l in
     let t = subst (λ (z : ℤ). eq (product a) (ofInt binary64 z) ≡ false) b (c .if4 .left) in
     let u = not-whole a f g l t in
-    rw (b, leftover-is a f g l u) (near-answers a g h l (λ z. u (is-number a f z)))
+    near-answers a g h l (λ z. u (is-number a f z)) b (ap (λ (z : ℤ). sub binary64 (product a) (ofInt binary64 z)) b ∙ leftover-is a f g l u)
 
 pub import-entry-spec : {M : Type 1} → statement M
 import-entry-spec = tie.close (tie.spec returns returns-2 returns-3 nearest-requires int-to-float-whole returns-4 returns-5)

@@ -39,7 +39,7 @@ cast-out-4 c = search needs
 slice-write-out-5 : tie.Need-slice-write-out-5
 slice-write-out-5 c =
     let s = c .before .before in
-    four-sets (s .args .out .now) (s .args .byte) (s .args .row) (s .args .column) (c .twos-complement .result % 256) (s .pre .0)
+    four-sets (s .args .out .now) _ _ _ _ (s .pre .0)
 
 same-length : tie.Need-same-length
 same-length c = search needs

@@ -5,3 +5,4 @@ pub mod Meaning
 pub mod Tested
 pub mod Output
 pub mod ReadBack
+pub mod Figures

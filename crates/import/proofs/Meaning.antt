@@ -14,12 +14,12 @@ use Rattle.integer.proofs.Ring.{ring, K, ⊝, _⊗_, _≐_}
 use Rattle.integer.proofs.Order.{order, le→, lt→, eq→, mul-le, mul-lt, mul-cancel-le, mul-cancel-lt}
 use Rattle.integer.proofs.Sizes.{size-parts}
 use Rattle.integer.proofs.Tests.{by-test}
+use Rattle.tape.specs.declared.refusal.Refusal.{Refusal}
+use Rattle.tape.specs.declared.refusal.Refusal.the-variants as refusal
 use Rattle.float.specs.Value.{finite, Finite, numerator, denominator, Equals, floatOf}
 use Rattle.float.specs.Nearest.{Nearest}
 use Rattle.float.proofs.Values.{denominator-pos, from-one}
 use Rattle.float.proofs.Rounded.{nearest-from, nearest-below, nearest-by, nearest-is}
-use Rattle.tape.specs.declared.refusal.Refusal.{Refusal}
-use Rattle.tape.specs.declared.refusal.Refusal.the-variants as refusal
 use Rattle.import.specs.Entries.{scaled, number, rest, imported, Rounds, Is, UnderHalf, Left, Exact}
 use Rattle.import.specs.declared.Entry.{Entry}
 use Rattle.import.specs.declared.Entry.the-variants.{Whole, Near, NotFinite, TooLarge}

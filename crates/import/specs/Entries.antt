@@ -1,5 +1,5 @@
 -- Document 02, request 2: one entry a of the identification tool's A and B. A finite float is numerator a / denominator a.
-use Prim.Native.Nat.{_≤_, _<_}
+use Prim.Native.Nat.{ℕ, _≤_, _<_}
 use mathlib.Core.Bool.{cond}
 use mathlib.Core.Path.{_≡_}
 use lib.Dec.{eqb, ltb}
@@ -7,6 +7,8 @@ use lib.IntN.{ℤ, pos, negℤ, natAbs, _-ℤ_, _*ℤ_}
 use lib.Ieee.{Float}
 use Rattle.integer.specs.Order.{_≼_, _≺_}
 use Rattle.commands.specs.Ranges.{mostEntry}
+use Rattle.tape.specs.declared.refusal.Refusal.the-variants as refusal
+use Rattle.tape.specs.Refusals.{row}
 use Rattle.float.specs.Value.{finite, Finite, numerator, denominator, Equals, floatOf}
 use Rattle.float.specs.Nearest.{nearestWhole, Nearest}
 use Rattle.import.specs.declared.Entry.{Entry}
@@ -35,6 +37,13 @@ imported a =
     (cond (ltb mostEntry (natAbs (number a))) TooLarge
     (cond (eqb (natAbs (rest a)) 0) (Whole (number a)) (Near (number a) (floatOf (rest a) (denominator a)))))
     NotFinite
+
+-- A refused entry's number in the table of refusals. Of an entry alone it carries nothing. 0 for a result.
+abbrev pub refusalNumber : Entry → ℕ
+refusalNumber (Whole k) = 0
+refusalNumber (Near k leftover) = 0
+refusalNumber NotFinite = row (refusal.NotFinite 0) .number
+refusalNumber TooLarge = row (refusal.TooLarge 0) .number
 
 -- ---- What an answer says of a, over whole numbers
 

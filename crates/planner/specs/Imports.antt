@@ -1,4 +1,4 @@
--- The exported calls of an import: the number that each returns, what it leaves, and what that says.
+-- The exported calls of an import: the number that they return, what they leave, and what that says.
 use Prim.Native.Nat.{ℕ}
 use mathlib.Core.Bool.{false}
 use mathlib.Core.Path.{_≡_}
@@ -7,8 +7,6 @@ use lib.ListN.{getD}
 use lib.IntN.{ℤ, pos}
 use lib.Ieee.{Float, nan, fin}
 use Rattle.integer.specs.Places.{at}
-use Rattle.tape.specs.declared.refusal.Refusal.the-variants as refusal
-use Rattle.tape.specs.Refusals.{row}
 use Rattle.import.specs.declared.Entry.{Entry}
 use Rattle.import.specs.declared.Entry.the-variants.{Whole, Near, NotFinite, TooLarge}
 use Rattle.import.specs.declared.model.Model.{Model}
@@ -18,13 +16,6 @@ use Rattle.import.specs.Models.{Readable}
 use Rattle.planner.specs.Calls.{codeOf}
 
 -- ---- one entry
-
--- 16 and 17 are the table's; of an entry alone they carry nothing
-abbrev pub entryCode : Entry → ℕ
-entryCode (Whole k) = 0
-entryCode (Near k leftover) = 0
-entryCode NotFinite = row (refusal.NotFinite 0) .number
-entryCode TooLarge = row (refusal.TooLarge 0) .number
 
 -- kind (1 whole, 2 near) and number
 abbrev pub entryLeft : Entry → List ℤ → List ℤ

@@ -1,9 +1,9 @@
 // The calls that import models of the identification tool.
 ghost use mathlib.Core.Path.{_≡_};
 ghost use lib.ListN.{length};
-ghost use Rattle.import.specs.Entries.{imported};
+ghost use Rattle.import.specs.Entries.{imported, refusalNumber};
 ghost use Rattle.import.specs.Models.{modelAnswer, modelLeft};
-ghost use Rattle.planner.specs.Imports.{entryCode, entryLeft, leftoverLeft, ExactBy, modelCode, ReadBackBy};
+ghost use Rattle.planner.specs.Imports.{entryLeft, leftoverLeft, ExactBy, modelCode, ReadBackBy};
 use crate::code;
 use import::Entry;
 use import::import_entry;
@@ -17,7 +17,7 @@ pub extern "C" fn fibergravel_import_entry(
     out: &mut [i64; 2],
     leftover: &mut [f64; 1],
 ) -> u64
-    ensures { λ r. ⌜ r ≡ entryCode (imported entry) ⌝ }
+    ensures { λ r. ⌜ r ≡ refusalNumber (imported entry) ⌝ }
     ensures { λ _. ⌜ now (out .exit) ≡ entryLeft (imported entry) (now (out .entry)) ⌝ }
     ensures { λ _. ⌜ now (leftover .exit) ≡ leftoverLeft (imported entry) (now (leftover .entry)) ⌝ }
     ensures { λ r. ⌜ ExactBy r entry (now (out .exit)) (now (leftover .exit)) ⌝ }

@@ -1,9 +1,9 @@
 -- `import_test::float_of`: only NaNs lie above the pattern of an infinity.
 use mathlib.Core.Path.{_∙_}
-use borrow.Author.Needs.{needs}
-use borrow.Author.Tests.{le-ltb}
 use lib.Ieee.{binary64}
 use lib.Ieee.Bits.{nanBits-above}
+use borrow.Author.Needs.{needs}
+use borrow.Author.Tests.{le-ltb}
 use Rattle.float.proofs.Signs.{failed}
 use Rattle.import_test.proofs.float_of.Statement.{statement}
 use Rattle.import_test.proofs.float_of.Tie as tie

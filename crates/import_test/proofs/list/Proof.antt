@@ -1,6 +1,6 @@
 use Prim.Native.Nat.{_≤_, _-_}
-use borrow.Author.Needs.{needs}
 use lib.ListN.{length}
+use borrow.Author.Needs.{needs}
 use Rattle.import_test.proofs.list.Statement.{statement}
 use Rattle.import_test.proofs.list.Tie as tie
 

@@ -1,12 +1,12 @@
 -- `import::model::test_entries` meets its contract.
 use Prim.Native.Nat.{ℕ, _+_, _-_, _≤_, zero-le}
 use mathlib.Core.Path.{_≡_, sym, ap, _∙_}
+use mathlib.Core.List.{List}
 use native.Mathlib.Omega.{arith}
 use native.Mathlib.Nat.{add-zero}
-use mathlib.Core.List.{List}
+use denote.Ref.{now}
 use lib.ListN.{length, getD, drop}
 use lib.Ieee.{Float, nan}
-use denote.Ref.{now}
 use borrow.Author.Needs.{needs}
 use Rattle.import.specs.Entries.{imported}
 use Rattle.import.specs.Models.{verdict, first, tested}

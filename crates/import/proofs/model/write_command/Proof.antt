@@ -3,9 +3,9 @@ use Prim.Native.Nat.{ℕ, _/_, _%_}
 use mathlib.Core.Path.{ap, _∙_}
 use mathlib.Core.List.{List, _∷_}
 use mir.Facts.{toZ-ofZ}
+use borrow.Author.Needs.{needs}
 use Rattle.integer.specs.Encoding.{unsignedBytes, complement}
 use Rattle.import.proofs.Output.{two-bytes, four-sets, filled}
-use borrow.Author.Needs.{needs}
 use Rattle.import.proofs.model.write_command.Statement.{statement}
 use Rattle.import.proofs.model.write_command.Tie as tie
 

@@ -25,8 +25,8 @@
  * calls have no rounds.
  *
  * Floats. A double is a 64-bit float of IEEE 754, and any of them may be passed. The import calls expect
- * the processor's usual mode for floats, which rounds to nearest and keeps subnormals; a program that is
- * linked with -ffast-math may start in another one.
+ * the processor's usual mode for floats, which rounds to nearest, keeps subnormals and does not trap; a
+ * program that is linked with -ffast-math may start in another one.
  *
  * Results. Each call returns 0 where it has a result, which is then in what it writes. Otherwise it
  * returns a refusal, and then no lent number has changed, those of `out` included. FIBERGRAVEL_REFUSAL

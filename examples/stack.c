@@ -27,7 +27,17 @@ static uint8_t tape[FIBERGRAVEL_MOST_TAPE + 1];
 static int32_t plan[FIBERGRAVEL_MOST_PLAN], multipliers[FIBERGRAVEL_MOST_MULTIPLIERS];
 static int64_t numbers[FIBERGRAVEL_READ_LENGTH], references[FIBERGRAVEL_READ_REFERENCES_LENGTH];
 static int64_t gap[FIBERGRAVEL_JUDGE_PLAN_LENGTH], answer[FIBERGRAVEL_SOLVE_LENGTH];
+static int64_t entry[FIBERGRAVEL_IMPORT_ENTRY_LENGTH];
+static double leftover[FIBERGRAVEL_IMPORT_LEFTOVER_LENGTH];
+static uint8_t model[FIBERGRAVEL_MOST_MODEL];
 static size_t tape_len, plan_len, multipliers_len;
+
+/* A model of the largest sizes, near whole numbers. */
+enum {
+    N = FIBERGRAVEL_MOST_STATES,
+    M = FIBERGRAVEL_MOST_INPUTS
+};
+static double a[N * N], b[N * M];
 
 static void *nothing(void *unused)
 {
@@ -64,6 +74,18 @@ static void *judge_multipliers(void *unused)
     return unused;
 }
 
+static void *import_entry(void *unused)
+{
+    fibergravel_import_entry(a[0], entry, leftover);
+    return unused;
+}
+
+static void *import_model(void *unused)
+{
+    fibergravel_import_model(N, M, a, N * N, b, N * M, model, sizeof model);
+    return unused;
+}
+
 static const struct {
     const char *name;
     void *(*body)(void *);
@@ -74,6 +96,8 @@ static const struct {
     { "solve", solve },
     { "judge_plan", judge_plan },
     { "judge_multipliers", judge_multipliers },
+    { "import_entry", import_entry },
+    { "import_model", import_model },
 };
 enum { THREADS = sizeof threads / sizeof threads[0] };
 
@@ -136,10 +160,19 @@ static void read_file(const char *name)
     plan_len = multipliers_len + (size_t)(numbers[FIBERGRAVEL_STEPS] * numbers[FIBERGRAVEL_INPUTS]);
 }
 
+static void make_model(void)
+{
+    for (int i = 0; i < N * N; i++)
+        a[i] = 0.1 * (i - N);
+    for (int i = 0; i < N * M; i++)
+        b[i] = 0.1 * (i - M);
+}
+
 int main(int argc, char **argv)
 {
     uint8_t *stack = stack_memory();
     size_t most[THREADS] = { 0 };
+    make_model();
     for (int i = 1; i < argc; i++) {
         read_file(argv[i]);
         for (int t = 0; t < THREADS; t++) {

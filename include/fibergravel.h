@@ -1,7 +1,7 @@
 /*
  * Fibergravel: the planning core of a sinter furnace. It reads a furnace tape, judges plans and
- * multipliers that it is shown, and works out a plan with a proved gap. docs/TAPE.md has the tape's
- * format.
+ * multipliers that it is shown, works out a plan with a proved gap, and turns a model in floats into
+ * commands of a tape. docs/TAPE.md has the tape's format.
  *
  * Link with libplanner.a, which `rt staticlib planner` writes to target/staticlib/. It is compiled for
  * x86-64 Linux, and needs memcpy and memset from outside and nothing else.
@@ -13,8 +13,8 @@
  * Memory. The caller owns all of it: the calls allocate nothing, keep no pointer and have no state
  * between them. So they may run on several threads at once, as long as no memory that one of them
  * writes is read or written by another at that time. What a call writes (`out`; plan and multipliers
- * of fibergravel_solve) overlaps nothing else that is passed to it. Lengths count elements. Pointers
- * are aligned as their type asks, no more.
+ * of fibergravel_solve; leftover of fibergravel_import_entry) overlaps nothing else that is passed to
+ * it. Lengths count elements. Pointers are aligned as their type asks, no more.
  *
  * NULL is never allowed, also not with length 0. In C++ the data() of an empty std::vector or
  * std::span may be NULL: pass the address of any object of that type in its place, with length 0.
@@ -24,9 +24,14 @@
  * at most FIBERGRAVEL_MOST_ROUNDS, and the work of a round is bounded by the tape's sizes. The other
  * calls have no rounds.
  *
- * Results. Each call returns 0 where it has a result, which is then in `out`. Otherwise it returns a
- * refusal, and then no lent number has changed, those of `out` included. FIBERGRAVEL_REFUSAL gives its
- * number, which is one of the names below, and FIBERGRAVEL_CARRIED what it carries, at most 10,000.
+ * Floats. A double is a 64-bit float of IEEE 754, and any of them may be passed. The import calls expect
+ * the processor's usual mode for floats, which rounds to nearest, keeps subnormals and does not trap; a
+ * program that is linked with -ffast-math may start in another one.
+ *
+ * Results. Each call returns 0 where it has a result, which is then in what it writes. Otherwise it
+ * returns a refusal, and then no lent number has changed, those of `out` included. FIBERGRAVEL_REFUSAL
+ * gives its number, which is one of the names below, and FIBERGRAVEL_CARRIED what it carries, at most
+ * 10,000, and 0 where it carries nothing.
  *
  * Plan and multipliers. n states, m inputs and N steps are the tape's. A plan has N * (n + m) numbers:
  * u(0), x(1), u(1), x(2) and so on, for each step its m inputs and then its n states. Multipliers are
@@ -44,7 +49,7 @@ extern "C" {
 
 /* The version of the calls, one number that compares: 100 times the first part plus the second. */
 #define FIBERGRAVEL_VERSION_MAJOR 1
-#define FIBERGRAVEL_VERSION_MINOR 1
+#define FIBERGRAVEL_VERSION_MINOR 2
 #define FIBERGRAVEL_VERSION (100 * FIBERGRAVEL_VERSION_MAJOR + FIBERGRAVEL_VERSION_MINOR)
 
 /* The number of a refusal, and what it carries. */
@@ -60,23 +65,26 @@ enum {
     FIBERGRAVEL_MOST_TAPE = 1064,       /* bytes of an accepted tape */
     FIBERGRAVEL_MOST_PLAN = 120,        /* numbers of a plan */
     FIBERGRAVEL_MOST_MULTIPLIERS = 72,  /* numbers of multipliers */
+    FIBERGRAVEL_MOST_MODEL = 300,       /* bytes of an imported model: 5 for each entry */
     FIBERGRAVEL_STACK = 65536           /* bytes of a stack that has room for a call */
 };
 
 /* The refusals. */
 enum {
-    /* These carry an offset in the tape: that of the command's byte, or what is said here. */
+    /* Of a tape. These carry an offset in it: that of the command's byte, or what is said here. */
     FIBERGRAVEL_CUT = 1,            /* the tape ends inside a command; or before FF: the tape's length */
     FIBERGRAVEL_UNKNOWN = 2,        /* no command has this byte */
     FIBERGRAVEL_MISPLACED = 3,      /* the first command is not 10, or there is a second 10 */
     FIBERGRAVEL_NO_SUCH_PLACE = 4,  /* an index outside the size */
-    FIBERGRAVEL_OUT_OF_RANGE = 5,   /* an operand outside its range, or lo > hi */
+    FIBERGRAVEL_OUT_OF_RANGE = 5,   /* an operand outside its range, or lo > hi. Of
+                                       fibergravel_import_model: n or m outside its range, carrying 0 */
     FIBERGRAVEL_TWICE = 6,          /* the same place, a column's step included, or command 50, given again */
     FIBERGRAVEL_ABSENT = 7,         /* at FF, something required was not given, or a curve lacks a step */
     FIBERGRAVEL_OVERRUN = 8,        /* bytes after FF: the offset after FF */
 
     /* These carry 0. */
-    FIBERGRAVEL_LENGTH = 9,         /* plan_len or multipliers_len is not the one that the tape asks for */
+    FIBERGRAVEL_LENGTH = 9,         /* a lent slice has not the length that the tape asks for, or, of
+                                       fibergravel_import_model, that n and m ask for */
     FIBERGRAVEL_OFF_MODEL = 10,     /* a state of the plan differs from the model */
     FIBERGRAVEL_OVER_LIMIT = 11,    /* a plan number outside lo to hi */
     FIBERGRAVEL_MULTIPLIER = 12,    /* one outside -16,777,216 to 16,777,216 */
@@ -84,7 +92,12 @@ enum {
     FIBERGRAVEL_NOT_SHOWN = 14,     /* the multipliers do not show impossibility */
 
     /* This carries R. It is an answer of fibergravel_solve as much as a refusal: there may be a plan. */
-    FIBERGRAVEL_OPEN = 15           /* R rounds without 'proved' or 'impossible' */
+    FIBERGRAVEL_OPEN = 15,          /* R rounds without 'proved' or 'impossible' */
+
+    /* Of an entry in floats. These carry its count from 0, A by rows and then B by rows; 0 where it is
+       imported alone. */
+    FIBERGRAVEL_NOT_FINITE = 16,    /* infinite or not a number */
+    FIBERGRAVEL_TOO_LARGE = 17      /* its number is beyond 16,384 in size */
 };
 
 /* Places of fibergravel_read's out, and how many numbers it has. */
@@ -128,6 +141,17 @@ enum {
     FIBERGRAVEL_IMPOSSIBLE = 2
 };
 
+/* Places of fibergravel_import_entry's out, how many numbers it and leftover have, and the two kinds. */
+enum {
+    FIBERGRAVEL_ENTRY_KIND = 0,
+    FIBERGRAVEL_ENTRY_NUMBER = 1,   /* the whole number, -16,384 to 16,384 */
+    FIBERGRAVEL_IMPORT_ENTRY_LENGTH = 2,
+    FIBERGRAVEL_IMPORT_LEFTOVER_LENGTH = 1,
+
+    FIBERGRAVEL_WHOLE = 1,
+    FIBERGRAVEL_NEAR = 2
+};
+
 /*
  * Reads a tape. out holds each number of the tape but those of its curves, 0 where the tape gives none
  * and beyond its sizes. Refusals 1 to 8.
@@ -166,6 +190,25 @@ uint64_t fibergravel_judge_multipliers(const uint8_t *tape, size_t tape_len, con
  */
 uint64_t fibergravel_solve(const uint8_t *tape, size_t tape_len, int32_t *plan, size_t plan_len,
                            int32_t *multipliers, size_t multipliers_len, int64_t out[FIBERGRAVEL_SOLVE_LENGTH]);
+
+/*
+ * Imports one entry a of a model. Its number is the whole number nearest to 4096 * a, halves upward. out
+ * holds the kind and the number. 'Whole' (kind 1) says that 4096 * a is the number; leftover is 0.0 then.
+ * 'Near' (kind 2) says that it is not: leftover is 4096 * a minus the number, the exact difference, from
+ * -0.5 up to but not including 0.5. Refusals 16 and 17, which carry nothing here.
+ */
+uint64_t fibergravel_import_entry(double entry, int64_t out[FIBERGRAVEL_IMPORT_ENTRY_LENGTH],
+                                  double leftover[FIBERGRAVEL_IMPORT_LEFTOVER_LENGTH]);
+
+/*
+ * Imports a model of n states and m inputs. a holds A by rows, n * n floats, b holds B by rows, n * m
+ * floats, and out gets 5 * (n * n + n * m) bytes, a command for each entry with its number, zeros
+ * included: A by rows as command 20, then B by rows as 21. They may stand anywhere between command 10
+ * and FF of a tape of these sizes. n is 1 to FIBERGRAVEL_MOST_STATES and m 1 to FIBERGRAVEL_MOST_INPUTS.
+ * Refusals 5, 9, and then 16 and 17 of the first entry that has one.
+ */
+uint64_t fibergravel_import_model(size_t n, size_t m, const double *a, size_t a_len, const double *b,
+                                  size_t b_len, uint8_t *out, size_t out_len);
 
 #ifdef __cplusplus
 }

@@ -1,7 +1,7 @@
-//! The five calls with the numbers that they answer, one to one with C's.
+//! The seven calls with the numbers that they answer, one to one with C's.
 //!
-//! Each answers 0 where it has a result, which is then in `out`; else the refusal's number +
-//! 256 × what it carries, and then nothing that was lent has changed, `out` included.
+//! Each answers 0 where it has a result, which is then in what it was lent to write; else the
+//! refusal's number + 256 × what it carries, and then nothing that was lent has changed.
 //! [`crate::Refusal::from_answer`] reads such an answer. The calls ask nothing of what they are
 //! lent: slices of any length, with any numbers.
 
@@ -33,6 +33,17 @@ mod foreign {
             multipliers_len: usize,
             out: *mut i64,
         ) -> u64;
+        pub fn fibergravel_import_entry(entry: f64, out: *mut i64, leftover: *mut f64) -> u64;
+        pub fn fibergravel_import_model(
+            n: usize,
+            m: usize,
+            a: *const f64,
+            a_len: usize,
+            b: *const f64,
+            b_len: usize,
+            out: *mut u8,
+            out_len: usize,
+        ) -> u64;
     }
 }
 
@@ -47,6 +58,12 @@ pub const JUDGE_PLAN_LENGTH: usize = 1;
 
 /// How many numbers [`solve`] writes.
 pub const SOLVE_LENGTH: usize = 7;
+
+/// How many whole numbers [`import_entry`] writes.
+pub const IMPORT_ENTRY_LENGTH: usize = 2;
+
+/// How many leftovers [`import_entry`] writes.
+pub const IMPORT_LEFTOVER_LENGTH: usize = 1;
 
 /// Reads a tape. `out`: n, m, N, A by rows of 6 (36), B by rows of 4 (24), w (6), lo (10), hi
 /// (10), r of command 30 (10), h (10), x(0) (6), g, R, T; columns are states, then inputs, and
@@ -121,6 +138,36 @@ pub fn solve(
             multipliers.as_mut_ptr(),
             multipliers.len(),
             out.as_mut_ptr(),
+        )
+    }
+}
+
+/// Imports one entry of a model. `out`: the kind (1 whole, 2 near) and the number; `leftover`: 0.0
+/// where it is whole.
+pub fn import_entry(
+    entry: f64,
+    out: &mut [i64; IMPORT_ENTRY_LENGTH],
+    leftover: &mut [f64; IMPORT_LEFTOVER_LENGTH],
+) -> u64 {
+    // SAFETY: `out` and `leftover` are lent mutably and so lie apart, and have the places that the
+    // call writes. It keeps no pointer.
+    unsafe { foreign::fibergravel_import_entry(entry, out.as_mut_ptr(), leftover.as_mut_ptr()) }
+}
+
+/// Imports a model of n states and m inputs: A and B by rows. `out`: a command for each entry.
+pub fn import_model(n: usize, m: usize, a: &[f64], b: &[f64], out: &mut [u8]) -> u64 {
+    // SAFETY: each pointer and the length after it are one slice's, and `out`, which alone is
+    // written, is lent mutably and so lies apart. The call keeps no pointer.
+    unsafe {
+        foreign::fibergravel_import_model(
+            n,
+            m,
+            a.as_ptr(),
+            a.len(),
+            b.as_ptr(),
+            b.len(),
+            out.as_mut_ptr(),
+            out.len(),
         )
     }
 }

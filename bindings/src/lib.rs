@@ -1,8 +1,10 @@
 //! The proved sinter furnace planner for Rust programs.
 //!
-//! This crate links `libplanner.a`, which `rt staticlib planner` writes, and wraps its five
-//! calls. Every call takes the tape's bytes and may be lent anything: what document 01 refuses
-//! comes back as a [`Refusal`], and then no lent number has changed. The crate needs `core` only.
+//! This crate links `libplanner.a`, which `rt staticlib planner` writes, and wraps its seven
+//! calls. Five take a tape's bytes; [`import_model`] writes the model's commands for a tape from
+//! floats, and [`import_entry`] rounds a single one. Every call may be lent anything: what the
+//! papers refuse comes back as a [`Refusal`], and then no lent number has changed. The crate needs
+//! `core` only.
 //! `docs/TAPE.md` of the repository has the tape's format, `include/fibergravel.h` what a call
 //! needs of memory, stack and time.
 //!
@@ -35,7 +37,7 @@
 //! No call panics with this repository's `libplanner.a`: it is proved what that library answers,
 //! and the memory safety of this crate rests on the same proof. A number that it never answers
 //! therefore shows that another library was linked. It is no refusal, which would say something
-//! of the tape, and no result; the call panics, so that no program goes on with it. A program
+//! of what was lent, and no result; the call panics, so that no program goes on with it. A program
 //! that must not panic uses [`calls`], whose functions hand the library's numbers over, and
 //! [`Refusal::from_answer`].
 #![no_std]
@@ -65,6 +67,10 @@ pub const MOST_TAPE: usize = 1064;
 pub const MOST_PLAN: usize = MOST_STEPS * MOST_COLUMNS;
 /// The most numbers of multipliers.
 pub const MOST_MULTIPLIERS: usize = MOST_STEPS * MOST_STATES;
+/// The most bytes of an imported model.
+pub const MOST_MODEL: usize = model_length(MOST_STATES, MOST_INPUTS);
+/// The largest size of an entry of A and B, in units of 1/4096.
+const MOST_ENTRY: i64 = 16_384;
 
 /// The sizes and each number of an accepted tape, absent ones as 0; its curves are in
 /// [`References`]. Places beyond the sizes are 0. A column is a state, 0 to n−1, or an input, n to
@@ -227,6 +233,48 @@ fn duty(number: i64) -> i32 {
     i32::try_from(number).unwrap_or_else(|_| wrong_library())
 }
 
+/// An imported entry a. In both cases the number stands for the entry on a tape, in units of 1/4096,
+/// and is from −16,384 to 16,384.
+#[derive(Clone, Copy, Debug, PartialEq)]
+pub enum Entry {
+    /// 4096 × a is this whole number.
+    Whole(i64),
+    /// 4096 × a is no whole number.
+    Near {
+        /// The whole number nearest to 4096 × a, halves upward.
+        number: i64,
+        /// 4096 × a minus the number, exactly: from −1/2 up to but not including 1/2.
+        leftover: f64,
+    },
+}
+
+impl Entry {
+    /// The whole number that stands for the entry on a tape.
+    pub fn number(self) -> i64 {
+        match self {
+            Entry::Whole(number) | Entry::Near { number, .. } => number,
+        }
+    }
+
+    /// The answer's numbers in the order of [`calls::import_entry`].
+    fn from_numbers(
+        numbers: [i64; calls::IMPORT_ENTRY_LENGTH],
+        leftover: [f64; calls::IMPORT_LEFTOVER_LENGTH],
+    ) -> Entry {
+        let ([kind, number], [leftover]) = (numbers, leftover);
+        if !(-MOST_ENTRY..=MOST_ENTRY).contains(&number) {
+            wrong_library();
+        }
+        match kind {
+            1 if leftover.to_bits() == 0 => Entry::Whole(number),
+            2 if leftover != 0.0 && (-0.5..0.5).contains(&leftover) => {
+                Entry::Near { number, leftover }
+            }
+            _ => wrong_library(),
+        }
+    }
+}
+
 /// For what `libplanner.a` never answers.
 #[cold]
 fn wrong_library() -> ! {
@@ -313,11 +361,112 @@ pub fn solve(tape: &[u8], plan: &mut [i32], multipliers: &mut [i32]) -> Result<S
     Ok(Solved::from_numbers(out))
 }
 
-/// Nothing for the answer 0, else the refusal.
+/// Imports one entry of a model, as the identification tool delivers it: a 64-bit float.
+///
+/// ```
+/// use fibergravel::{import_entry, Entry, Refusal};
+///
+/// assert_eq!(import_entry(0.5), Ok(Entry::Whole(2048)));
+/// // 4096 × 0.2 is near 819; what is left over is exact.
+/// let Ok(Entry::Near { number, leftover }) = import_entry(0.2) else {
+///     panic!("0.2 is near a whole number")
+/// };
+/// assert_eq!((number, leftover), (819, 4096.0 * 0.2 - 819.0));
+/// assert_eq!(import_entry(f64::NAN), Err(Refusal::NotFinite { entry: None }));
+/// assert_eq!(import_entry(4.5), Err(Refusal::TooLarge { entry: None }));
+/// ```
+///
+/// # Errors
+///
+/// 16 where the entry is infinite or not a number, 17 where its number is beyond 16,384 in size.
+/// Both carry nothing.
+pub fn import_entry(entry: f64) -> Result<Entry, Refusal> {
+    let mut out = [0; calls::IMPORT_ENTRY_LENGTH];
+    let mut leftover = [0.0; calls::IMPORT_LEFTOVER_LENGTH];
+    match calls::import_entry(entry, &mut out, &mut leftover) {
+        0 => Ok(Entry::from_numbers(out, leftover)),
+        refused => Err(entry_refusal(refused)),
+    }
+}
+
+/// The refusal of an entry alone.
+fn entry_refusal(answer: u64) -> Refusal {
+    match answer {
+        16 => Refusal::NotFinite { entry: None },
+        17 => Refusal::TooLarge { entry: None },
+        _ => wrong_library(),
+    }
+}
+
+/// How many bytes [`import_model`] writes for n states and m inputs: 5 × (n² + n × m).
+pub const fn model_length(states: usize, inputs: usize) -> usize {
+    let columns = states.saturating_add(inputs);
+    states.saturating_mul(columns).saturating_mul(5)
+}
+
+/// Imports a model: A, n² floats by rows, and B, n × m floats by rows. It writes a command for each
+/// entry, zeros included, with the entry's [`Entry::number`]: A by rows as 20, then B by rows as 21.
+/// They may stand anywhere between command 10 and FF of a tape with these sizes.
+///
+/// ```
+/// use fibergravel::{import_model, model_length, read};
+///
+/// let mut model = [0; model_length(1, 1)];
+/// import_model(1, 1, &[1.0], &[0.5], &mut model)?;
+/// assert_eq!(model, [0x20, 0, 0, 0x00, 0x10, 0x21, 0, 0, 0x00, 0x08]);
+///
+/// // Document 01's tape F.
+/// let mut tape = vec![0x10, 1, 1, 1]; // size
+/// tape.extend(model);
+/// tape.extend([
+///     0x30, 0, 0x18, 0xFC, 0xE8, 0x03, 0x6E, 0x00, 1, // the state: -1000 to 1000, r 110
+///     0x30, 1, 0x00, 0x00, 0x28, 0x00, 0x00, 0x00, 1, // the input: 0 to 40, r 0
+///     0x40, 0, 0x64, 0x00, // x(0) = 100
+///     0x50, 0x19, 0x00, 0x05, 0x00, 0x40, 0x9C, 0x00, 0x00, // g 25, R 5, T 40000
+///     0xFF,
+/// ]);
+/// let numbers = read(&tape)?;
+/// assert_eq!((numbers.a[0][0], numbers.b[0][0]), (4096, 2048));
+/// # Ok::<(), fibergravel::Refusal>(())
+/// ```
+///
+/// # Errors
+///
+/// 5 where `states` is not from 1 to 6 or `inputs` not from 1 to 4, carrying nothing; 9 where `a`,
+/// `b` or `out` has not its length, which is [`model_length`] for `out`; then 16 and 17 of the
+/// entries in order, A before B, with the entry's count. A refusal leaves `out` as it was.
+pub fn import_model(
+    states: usize,
+    inputs: usize,
+    a: &[f64],
+    b: &[f64],
+    out: &mut [u8],
+) -> Result<(), Refusal> {
+    let entries = a.len().saturating_add(b.len());
+    match calls::import_model(states, inputs, a, b, out) {
+        0 => Ok(()),
+        refused => Err(model_refusal(refused, entries)),
+    }
+}
+
+/// The refusal of a model with so many entries.
+fn model_refusal(answer: u64, entries: usize) -> Refusal {
+    match Refusal::from_answer(answer) {
+        Some(Refusal::OutOfRange { offset: 0 }) => Refusal::ArgumentOutOfRange,
+        Some(Refusal::Length) => Refusal::Length,
+        Some(
+            refusal @ (Refusal::NotFinite { entry: Some(count) }
+            | Refusal::TooLarge { entry: Some(count) }),
+        ) if count < entries as u64 => refusal,
+        _ => wrong_library(),
+    }
+}
+
+/// Nothing for the answer 0, else the refusal, of a call that takes a tape.
 fn accepted(answer: u64) -> Result<(), Refusal> {
     match Refusal::from_answer(answer) {
         None if answer == 0 => Ok(()),
-        None => wrong_library(),
+        None | Some(Refusal::NotFinite { .. } | Refusal::TooLarge { .. }) => wrong_library(),
         Some(refusal) => Err(refusal),
     }
 }
@@ -362,8 +511,27 @@ mod tests {
 
     #[test]
     fn what_no_planner_answers_panics() {
-        for answer in [16, 9 + 256, u64::MAX] {
+        for answer in [16, 17 + 256, 18, 9 + 256, u64::MAX] {
             assert!(catch_unwind(|| accepted(answer)).is_err());
+        }
+        for answer in [0, 5, 9, 15, 16 + 256, 17 + 256, u64::MAX] {
+            assert!(catch_unwind(|| entry_refusal(answer)).is_err());
+        }
+        for answer in [0, 1, 5 + 256, 9 + 256, 15, 16 + 256 * 2, 17 + 256 * 2, 18] {
+            assert!(catch_unwind(|| model_refusal(answer, 2)).is_err());
+        }
+        for (kind, number, leftover) in [
+            (0, 0, 0.0),
+            (3, 0, 0.0),
+            (1, 16_385, 0.0),
+            (2, -16_385, 0.25),
+            (1, 0, -0.0),
+            (1, 0, 0.25),
+            (2, 0, 0.0),
+            (2, 0, 0.5),
+            (2, 0, f64::NAN),
+        ] {
+            assert!(catch_unwind(|| Entry::from_numbers([kind, number], [leftover])).is_err());
         }
         for (place, number) in [(0, 0), (0, 7), (1, 5), (2, 13), (2, -1)] {
             let mut numbers = counted();
@@ -381,6 +549,34 @@ mod tests {
     }
 
     #[test]
+    fn every_number_of_an_entry_has_its_place() {
+        let entry = Entry::from_numbers([1, -16_384], [0.0]);
+        assert_eq!(entry, Entry::Whole(-16_384));
+        let (number, leftover) = (16_384, -0.5);
+        let entry = Entry::from_numbers([2, number], [leftover]);
+        assert_eq!(entry, Entry::Near { number, leftover });
+        assert_eq!(entry.number(), number);
+    }
+
+    #[test]
+    fn refusals_of_imports() {
+        assert_eq!(entry_refusal(16), Refusal::NotFinite { entry: None });
+        assert_eq!(entry_refusal(17), Refusal::TooLarge { entry: None });
+        assert_eq!(model_refusal(5, 0), Refusal::ArgumentOutOfRange);
+        assert_eq!(model_refusal(9, 0), Refusal::Length);
+        let entry = Some(1);
+        assert_eq!(model_refusal(16 + 256, 2), Refusal::NotFinite { entry });
+        assert_eq!(model_refusal(17 + 256, 2), Refusal::TooLarge { entry });
+    }
+
+    #[test]
+    fn lengths_of_models() {
+        assert_eq!((model_length(1, 1), MOST_MODEL), (10, 300));
+        assert_eq!(model_length(usize::MAX, 0), usize::MAX);
+        assert_eq!(model_length(1 << 32, usize::MAX), usize::MAX);
+    }
+
+    #[test]
     fn anything_may_be_lent() {
         let cut = Refusal::Cut { offset: 0 };
         let unknown = Refusal::Unknown { offset: 0 };
@@ -390,5 +586,9 @@ mod tests {
         assert_eq!(judge_plan(&[0xff], &[], &[]), Err(misplaced));
         assert_eq!(judge_multipliers(&[0], &[1]), Err(unknown));
         assert_eq!(solve(&[0x10], &mut [], &mut [7]), Err(cut));
+        let sizes = import_model(usize::MAX, 0, &[], &[f64::NAN], &mut []);
+        assert_eq!(sizes, Err(Refusal::ArgumentOutOfRange));
+        let lengths = import_model(6, 4, &[], &[f64::NAN], &mut []);
+        assert_eq!(lengths, Err(Refusal::Length));
     }
 }

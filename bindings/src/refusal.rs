@@ -1,9 +1,9 @@
-//! The refusals, 1 to 15.
+//! The refusals, 1 to 17.
 
 use core::fmt;
 
 /// Why a call gives no answer. Each case holds what the refusal carries. The cases are those of
-/// document 01's table and no others, so a refusal always says something of the tape or of what
+/// the papers' tables and no others, so a refusal always says something of the tape or of what
 /// was lent; what a call does with any other number, the crate's page says under "Panics".
 #[derive(Clone, Copy, Debug, PartialEq, Eq, Hash)]
 #[non_exhaustive]
@@ -33,6 +33,8 @@ pub enum Refusal {
         /// Of the command byte.
         offset: u64,
     },
+    /// 5 of [`crate::import_model`]: n or m outside its range. It carries nothing.
+    ArgumentOutOfRange,
     /// 6: the same place, a column's step included, or 50, given again.
     Twice {
         /// Of the command byte.
@@ -48,7 +50,8 @@ pub enum Refusal {
         /// The offset after FF.
         offset: u64,
     },
-    /// 9: a lent slice has not the length that the tape's sizes ask for.
+    /// 9: a lent slice has not the length that the sizes ask for, the tape's or those of
+    /// [`crate::import_model`].
     Length,
     /// 10: a state of the plan differs from the model.
     OffModel,
@@ -65,11 +68,23 @@ pub enum Refusal {
         /// The tape's R.
         rounds: u64,
     },
+    /// 16: an entry is infinite or not a number.
+    NotFinite {
+        /// Its count from 0, A by rows and then B by rows; none where an entry is imported alone.
+        entry: Option<u64>,
+    },
+    /// 17: an entry's number is beyond 16,384 in size.
+    TooLarge {
+        /// Its count from 0, A by rows and then B by rows; none where an entry is imported alone.
+        entry: Option<u64>,
+    },
 }
 
 impl Refusal {
     /// The refusal that an answer of [`crate::calls`] means; none for 0, which says that there is
-    /// a result, and for every other number that no refusal has.
+    /// a result, and for every other number that no refusal has. An answer does not say which call
+    /// gave it: 5 gives [`Refusal::OutOfRange`], and 16 and 17 give a count, also where the call
+    /// carries nothing.
     pub fn from_answer(answer: u64) -> Option<Refusal> {
         let (number, carried) = (answer % 256, answer / 256);
         let offset = carried;
@@ -89,18 +104,25 @@ impl Refusal {
             13 if carried == 0 => Refusal::Wide,
             14 if carried == 0 => Refusal::NotShown,
             15 => Refusal::Open { rounds: carried },
+            16 => Refusal::NotFinite {
+                entry: Some(carried),
+            },
+            17 => Refusal::TooLarge {
+                entry: Some(carried),
+            },
             _ => return None,
         })
     }
 
-    /// Document 01's number, word and carried number of the refusal.
-    fn entry(self) -> (u64, &'static str, Option<u64>) {
+    /// The papers' number, word and carried number of the refusal.
+    fn row(self) -> (u64, &'static str, Option<u64>) {
         match self {
             Refusal::Cut { offset } => (1, "cut", Some(offset)),
             Refusal::Unknown { offset } => (2, "unknown", Some(offset)),
             Refusal::Misplaced { offset } => (3, "misplaced", Some(offset)),
             Refusal::NoSuchPlace { offset } => (4, "no such place", Some(offset)),
             Refusal::OutOfRange { offset } => (5, "out of range", Some(offset)),
+            Refusal::ArgumentOutOfRange => (5, "out of range", None),
             Refusal::Twice { offset } => (6, "twice", Some(offset)),
             Refusal::Absent { offset } => (7, "absent", Some(offset)),
             Refusal::Overrun { offset } => (8, "overrun", Some(offset)),
@@ -111,32 +133,38 @@ impl Refusal {
             Refusal::Wide => (13, "wide", None),
             Refusal::NotShown => (14, "not shown", None),
             Refusal::Open { rounds } => (15, "open", Some(rounds)),
+            Refusal::NotFinite { entry } => (16, "not finite", entry),
+            Refusal::TooLarge { entry } => (17, "too large", entry),
         }
     }
 
-    /// The number in document 01's table, 1 to 15.
+    /// The number in the papers' tables, 1 to 17.
     pub fn number(self) -> u64 {
-        self.entry().0
+        self.row().0
     }
 
-    /// The word in document 01's table.
+    /// The word in the papers' tables.
     pub fn word(self) -> &'static str {
-        self.entry().1
+        self.row().1
     }
 
-    /// An offset for 1 to 8, R for 15, nothing for 9 to 14.
+    /// An offset for 1 to 8, R for 15, an entry's count for 16 and 17; nothing for 9 to 14, for 5 of
+    /// a model, and for 16 and 17 of an entry alone.
     pub fn carried(self) -> Option<u64> {
-        self.entry().2
+        self.row().2
     }
 }
 
 impl fmt::Display for Refusal {
     fn fmt(&self, f: &mut fmt::Formatter<'_>) -> fmt::Result {
-        let (number, word, carried) = self.entry();
+        let (number, word, carried) = self.row();
         write!(f, "refused {number} ({word})")?;
         match (self, carried) {
             (_, None) => Ok(()),
             (Refusal::Open { rounds }, _) => write!(f, " after {rounds} rounds"),
+            (Refusal::NotFinite { .. } | Refusal::TooLarge { .. }, Some(count)) => {
+                write!(f, " in entry {count}")
+            }
             (_, Some(offset)) => write!(f, " at {offset}"),
         }
     }
@@ -152,7 +180,7 @@ mod tests {
 
     #[test]
     fn each_number_gives_its_refusal() {
-        for number in 1..=15 {
+        for number in 1..=17 {
             let carried = if (9..=14).contains(&number) { 0 } else { 1063 };
             let refusal = Refusal::from_answer(number + 256 * carried).expect("in the table");
             assert_eq!(refusal.number(), number);
@@ -162,7 +190,7 @@ mod tests {
 
     #[test]
     fn no_other_number_gives_one() {
-        for answer in [0, 16, 255, 256, 9 + 256, 14 + 256, u64::MAX] {
+        for answer in [0, 18, 255, 256, 9 + 256, 14 + 256, u64::MAX] {
             assert_eq!(Refusal::from_answer(answer), None);
         }
     }
@@ -177,6 +205,18 @@ mod tests {
         assert_eq!(
             Refusal::Open { rounds: 5 }.to_string(),
             "refused 15 (open) after 5 rounds"
+        );
+        assert_eq!(
+            Refusal::ArgumentOutOfRange.to_string(),
+            "refused 5 (out of range)"
+        );
+        assert_eq!(
+            Refusal::NotFinite { entry: Some(59) }.to_string(),
+            "refused 16 (not finite) in entry 59"
+        );
+        assert_eq!(
+            Refusal::TooLarge { entry: None }.to_string(),
+            "refused 17 (too large)"
         );
     }
 }

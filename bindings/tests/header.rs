@@ -21,10 +21,13 @@ fn sizes_and_lengths() {
         ("MOST_TAPE", fibergravel::MOST_TAPE),
         ("MOST_PLAN", fibergravel::MOST_PLAN),
         ("MOST_MULTIPLIERS", fibergravel::MOST_MULTIPLIERS),
+        ("MOST_MODEL", fibergravel::MOST_MODEL),
         ("READ_LENGTH", calls::READ_LENGTH),
         ("READ_REFERENCES_LENGTH", calls::READ_REFERENCES_LENGTH),
         ("JUDGE_PLAN_LENGTH", calls::JUDGE_PLAN_LENGTH),
         ("SOLVE_LENGTH", calls::SOLVE_LENGTH),
+        ("IMPORT_ENTRY_LENGTH", calls::IMPORT_ENTRY_LENGTH),
+        ("IMPORT_LEFTOVER_LENGTH", calls::IMPORT_LEFTOVER_LENGTH),
     ];
     for (name, size) in sizes {
         assert_eq!(number(name), Some(size as u64), "{name}");
@@ -40,8 +43,19 @@ fn places_of_the_references() {
 }
 
 #[test]
+fn places_and_kinds_of_an_entry() {
+    let (mut out, mut leftover) = ([0; 2], [0.0]);
+    let place = |name| number(name).expect("in the header") as usize;
+    for (entry, kind, found) in [(1.0, "WHOLE", 4096), (0.2, "NEAR", 819)] {
+        assert_eq!(calls::import_entry(entry, &mut out, &mut leftover), 0);
+        assert_eq!(out[place("ENTRY_KIND")], place(kind) as i64);
+        assert_eq!(out[place("ENTRY_NUMBER")], found);
+    }
+}
+
+#[test]
 fn refusals() {
-    for answer in 1..=15 {
+    for answer in 1..=17 {
         let refusal = Refusal::from_answer(answer).expect("in the table");
         let name = refusal.word().replace(' ', "_").to_uppercase();
         assert_eq!(number(&name), Some(answer), "{name}");

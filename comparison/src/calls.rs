@@ -1,6 +1,8 @@
 //! One call on both sides: by the planner on slices with guard cells or with nothing beside them,
 //! and by the second program.
 
+use std::fmt;
+
 use fibergravel::calls;
 use reference::cases::{read_numbers, reference_numbers};
 use reference::generate::Lent;
@@ -10,7 +12,7 @@ use reference::{
 
 use crate::guard::{marks, Beside, Guarded, GUARD};
 
-/// The five calls.
+/// The five calls that take a tape.
 #[derive(Clone, Copy, Debug, PartialEq, Eq)]
 pub enum Call {
     /// Reads a tape.
@@ -87,6 +89,30 @@ impl<'a> Lending<'a> {
     pub fn of(lent: &'a Lent, tape: &'a [u8]) -> Lending<'a> {
         Lending::new(lent.origin, tape, &lent.plan, &lent.multipliers)
     }
+}
+
+impl fmt::Display for Lending<'_> {
+    fn fmt(&self, f: &mut fmt::Formatter) -> fmt::Result {
+        writeln!(f, "{}", self.origin)?;
+        writeln!(f, "tape {}", hex(self.tape))?;
+        writeln!(f, "behind the tape {}", hex(self.behind))?;
+        writeln!(f, "plan lent {:?}", self.plan)?;
+        write!(f, "multipliers lent {:?}", self.multipliers)
+    }
+}
+
+/// Longer inputs, which only the slip program gets, are printed in part.
+const MOST_PRINTED: usize = 1_300;
+
+/// Bytes as hexadecimal digits.
+fn hex(bytes: &[u8]) -> String {
+    let printed = bytes.len().min(MOST_PRINTED);
+    let digits = bytes[..printed].iter().map(|byte| format!("{byte:02X}"));
+    let mut text: String = digits.collect();
+    if printed < bytes.len() {
+        text += &format!(".. ({} bytes)", bytes.len());
+    }
+    text
 }
 
 /// What a call left: its answer and all numbers that were lent.
@@ -189,7 +215,7 @@ pub fn by_reference(call: Call, lending: &Lending) -> (Answer, Left) {
 }
 
 /// The number that a call answers with a refusal.
-fn refused(refusal: Refusal) -> u64 {
+pub fn refused(refusal: Refusal) -> u64 {
     u64::from(refusal.number()) + 256 * refusal.carried().unwrap_or(0) as u64
 }
 

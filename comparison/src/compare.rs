@@ -7,7 +7,7 @@ use std::process::{Command, ExitCode, Stdio};
 use crate::comparison::Comparison;
 use crate::guard::Beside;
 use crate::part::Part;
-use crate::{edges, slip};
+use crate::{edges, imports, slip};
 
 /// Says where a long run is once in so many tapes.
 const SAY_ONE_IN: u64 = 10_000;
@@ -48,8 +48,8 @@ fn text(error: std::io::Error) -> String {
     error.to_string()
 }
 
-/// Compares the cases of `count` seeds from `first_seed` on, every length and the slips, and
-/// prints what was tried. Fails where something differs or was never met.
+/// Compares the cases, entries and models of `count` seeds from `first_seed` on, every length and
+/// the slips, and prints what was tried. Fails where something differs or was never met.
 pub fn compare_here(count: u64, first_seed: u64) -> Result<(), String> {
     let mut comparison = Comparison::new(Beside::Guards, Some(slip::program()?));
     for edge in Part::EDGES {
@@ -61,8 +61,10 @@ pub fn compare_here(count: u64, first_seed: u64) -> Result<(), String> {
             break;
         }
         let seed = first_seed.wrapping_add(place - 1);
-        tell(Part::Case(seed));
-        add(&mut comparison, Part::Case(seed));
+        for part in Part::of_seed(seed) {
+            tell(part);
+            add(&mut comparison, part);
+        }
         if place.is_multiple_of(SAY_ONE_IN) {
             eprintln!("{place} tapes, seed {seed}: {}", comparison.summary());
         }
@@ -93,7 +95,7 @@ fn tell(part: Part) {
 }
 
 /// Compares a part.
-fn add(comparison: &mut Comparison, part: Part) {
+pub fn add(comparison: &mut Comparison, part: Part) {
     comparison.part = part;
     match part {
         Part::Slips => edges::add_slips(comparison),
@@ -101,6 +103,10 @@ fn add(comparison: &mut Comparison, part: Part) {
         Part::Places => edges::add_places(comparison),
         Part::Slices => edges::add_slices(comparison),
         Part::Equal => edges::add_equal(comparison),
+        Part::Entries => imports::add_entries(comparison),
+        Part::Models => imports::add_models(comparison),
         Part::Case(seed) => comparison.add_case(seed),
+        Part::EntriesOf(seed) => comparison.add_entries_of(seed),
+        Part::ModelsOf(seed) => comparison.add_models_of(seed),
     }
 }

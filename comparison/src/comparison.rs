@@ -1,6 +1,6 @@
 //! Calls and slips on both sides, and what was tried so far.
 
-use std::fmt::Debug;
+use std::fmt::{Debug, Display};
 use std::path::PathBuf;
 
 use reference::count::{answers, step_refusals, Counts, STEPS};
@@ -13,9 +13,6 @@ use crate::{slip, tune, wrapper};
 
 /// A comparison ends soon after so many differences, and prints no more of them.
 const MOST_DIFFERENCES: u64 = 5;
-
-/// Longer inputs, which only the slip program gets, are printed in part.
-const MOST_PRINTED: usize = 1_300;
 
 /// The heading of the call that reads the references by step.
 pub const REFERENCES: &str = "read references";
@@ -42,6 +39,14 @@ pub const PLAN_LENGTHS: &str = "plan lengths";
 pub const MULTIPLIER_LENGTHS: &str = "multiplier lengths";
 /// Of [`ALSO`]: multipliers whose floor is the ceiling.
 pub const EQUAL: &str = "floor equal to ceiling";
+/// Of [`ALSO`]: entries beside every number and every half.
+pub const ENTRIES: &str = "entries beside numbers, halves and powers of two";
+/// Of [`ALSO`]: models with slices of every length, and of sizes beside the range.
+pub const MODEL_LENGTHS: &str = "model lengths and sizes";
+/// Of [`ALSO`]: models with a faulty entry at every place.
+pub const FAULTS: &str = "faulty entries of models";
+/// Of [`ALSO`]: tapes with an imported model.
+pub const IMPORTED: &str = "imported models read from a tape";
 
 /// What has been compared so far.
 pub struct Comparison {
@@ -53,7 +58,8 @@ pub struct Comparison {
     pub open_unchanged: u64,
     /// The slip program; without it slips are not compared.
     slip: Option<PathBuf>,
-    beside: Beside,
+    /// What lies beside everything that is lent.
+    pub beside: Beside,
     calls: u64,
     differences: u64,
 }
@@ -73,12 +79,17 @@ impl Comparison {
             PLAN_LENGTHS,
             MULTIPLIER_LENGTHS,
             EQUAL,
+            ENTRIES,
+            MODEL_LENGTHS,
+            FAULTS,
+            IMPORTED,
         ];
         counts.expect(ALSO, also.map(str::to_string));
         let refusals = [1, 2, 3, 4, 5, 6, 7, 8];
         let curves = [NO_CURVE, SOME_CURVES, ALL_CURVES];
         counts.expect(REFERENCES, answers(&curves, &refusals));
         counts.expect(STEPS, step_refusals());
+        counts.expect_imports();
         counts.expect(
             "slip",
             answers(&["proved", "impossible", "open"], &refusals),
@@ -98,19 +109,38 @@ impl Comparison {
     pub fn call(&mut self, call: Call, lending: &Lending) -> (Answer, Left) {
         let (answer, expected) = by_reference(call, lending);
         let found = by_planner(call, lending, self.beside);
-        self.calls += 1;
-        if found != expected {
-            self.differ(&format!("{call:?}"), lending, &found, &expected);
-        } else if let Some(found) = wrapper::difference(call, lending, &answer, &expected) {
-            self.differ(&format!("{call:?}, wrapper"), lending, &found, &expected);
-        }
+        let of_wrapper = || wrapper::difference(call, lending, &answer, &expected);
+        self.compare(&call, lending, &found, &expected, of_wrapper);
         (answer, expected)
     }
 
+    /// Compares what a call left on both sides and, where that is the same, what the wrapper says
+    /// where it differs.
+    pub fn compare<Left: Debug + PartialEq>(
+        &mut self,
+        call: &dyn Debug,
+        lent: &dyn Display,
+        found: &Left,
+        expected: &Left,
+        of_wrapper: impl FnOnce() -> Option<String>,
+    ) {
+        self.calls += 1;
+        if found != expected {
+            self.differ(call, lent, found, expected);
+        } else if let Some(found) = of_wrapper() {
+            self.differ(&format_args!("{call:?}, wrapper"), lent, &found, expected);
+        }
+    }
+
     /// Makes a call that is counted under [`ALSO`], by the origin of what is lent.
-    pub fn also(&mut self, call: Call, lending: &Lending) {
-        self.counts.add(ALSO, lending.origin);
-        self.call(call, lending);
+    pub fn also(&mut self, call: Call, lending: &Lending) -> (Answer, Left) {
+        self.add_also(lending.origin);
+        self.call(call, lending)
+    }
+
+    /// Counts under [`ALSO`].
+    pub fn add_also(&mut self, name: &str) {
+        self.counts.add(ALSO, name);
     }
 
     /// Compares the slip program's text for an input that it gets in parts.
@@ -124,15 +154,15 @@ impl Comparison {
         self.counts.add("slip", &slip_name(&expected));
         if found.as_ref() != Ok(&expected) {
             let lending = Lending::new("input of the slip program", &input, &[], &[]);
-            self.differ("slip", &lending, &found, &expected);
+            self.differ(&format_args!("slip"), &lending, &found, &expected);
         }
     }
 
     /// Prints a difference.
-    fn differ(
+    pub fn differ(
         &mut self,
-        call: &str,
-        lending: &Lending,
+        call: &dyn Debug,
+        lent: &dyn Display,
         planner: &dyn Debug,
         reference: &dyn Debug,
     ) {
@@ -140,12 +170,8 @@ impl Comparison {
         if self.differences > MOST_DIFFERENCES {
             return;
         }
-        println!("DIFFERENCE in {call}, {}", self.part.origin());
-        println!("lent: {}", lending.origin);
-        println!("tape {}", hex(lending.tape));
-        println!("behind the tape {}", hex(lending.behind));
-        println!("plan lent {:?}", lending.plan);
-        println!("multipliers lent {:?}", lending.multipliers);
+        println!("DIFFERENCE in {call:?}, {}", self.part.origin());
+        println!("lent: {lent}");
         println!("planner   {planner:?}");
         println!("reference {reference:?}");
     }
@@ -180,15 +206,4 @@ fn slip_name(text: &str) -> String {
         [kind, ..] => kind.to_string(),
         [] => String::new(),
     }
-}
-
-/// Bytes as hexadecimal digits.
-fn hex(bytes: &[u8]) -> String {
-    let printed = bytes.len().min(MOST_PRINTED);
-    let digits = bytes[..printed].iter().map(|byte| format!("{byte:02X}"));
-    let mut text: String = digits.collect();
-    if printed < bytes.len() {
-        text += &format!(".. ({} bytes)", bytes.len());
-    }
-    text
 }

@@ -1,5 +1,6 @@
 //! Lent numbers with guard cells on both sides, so that a write beside them shows, or with nothing
-//! beside them, so that valgrind sees it.
+//! beside them, so that valgrind sees it. Cells are compared by their bits: a float may differ from
+//! itself.
 
 use std::hint::black_box;
 use std::ops::Range;
@@ -7,29 +8,75 @@ use std::ops::Range;
 /// Guard cells on each side. The number is odd, so that a lent tape is not aligned.
 pub const GUARD: usize = 13;
 
-/// Numbers that no call writes.
-pub trait Mark: Copy + PartialEq {
-    /// One for each place.
+/// Numbers that can be lent.
+pub trait Cell: Copy {
+    /// A number for each place that no call writes; a byte, which may be anything, that is not the
+    /// same in all places.
     fn mark(place: usize) -> Self;
+
+    /// The number as memory holds it.
+    fn bits(self) -> u64;
 }
 
-impl Mark for i32 {
+impl Cell for u8 {
+    fn mark(place: usize) -> u8 {
+        0x5a ^ place as u8
+    }
+
+    fn bits(self) -> u64 {
+        u64::from(self)
+    }
+}
+
+impl Cell for i32 {
     fn mark(place: usize) -> i32 {
         // Beyond the multiplier range.
         0x5a5a_0000 + place as i32
     }
+
+    fn bits(self) -> u64 {
+        u64::from(self as u32)
+    }
 }
 
-impl Mark for i64 {
+impl Cell for i64 {
     fn mark(place: usize) -> i64 {
         // Beyond 5 × 10^18, which no gap passes.
         0x5a5a_5a5a_0000_0000 + place as i64
     }
+
+    fn bits(self) -> u64 {
+        self as u64
+    }
+}
+
+impl Cell for f64 {
+    fn mark(place: usize) -> f64 {
+        // Not a number, which no leftover is.
+        f64::from_bits(0x7ff8_5a5a_0000_0000 + place as u64)
+    }
+
+    fn bits(self) -> u64 {
+        self.to_bits()
+    }
 }
 
 /// `count` marks.
-pub fn marks<T: Mark>(count: usize) -> Vec<T> {
+pub fn marks<T: Cell>(count: usize) -> Vec<T> {
     (0..count).map(T::mark).collect()
+}
+
+/// The bits of all cells.
+pub fn bits<T: Cell>(cells: &[T]) -> Vec<u64> {
+    cells.iter().map(|cell| cell.bits()).collect()
+}
+
+/// Do the cells have the same bits?
+fn same<T: Cell>(cells: &[T], before: &[T]) -> bool {
+    let (cells, before) = (cells.iter(), before.iter());
+    cells
+        .map(|cell| cell.bits())
+        .eq(before.map(|cell| cell.bits()))
 }
 
 /// What lies beside lent numbers.
@@ -49,7 +96,7 @@ pub struct Guarded<T> {
     lent: Range<usize>,
 }
 
-impl<T: Copy + PartialEq> Guarded<T> {
+impl<T: Cell> Guarded<T> {
     /// Lends a copy of `lent` with `front` before it and `behind` after it.
     pub fn between(front: &[T], lent: &[T], behind: &[T]) -> Guarded<T> {
         let cells = [front, lent, behind].concat();
@@ -75,16 +122,14 @@ impl<T: Copy + PartialEq> Guarded<T> {
     pub fn guards_hold(&self) -> bool {
         let cells = black_box(&self.cells);
         let Range { start, end } = self.lent;
-        cells[..start] == self.before[..start] && cells[end..] == self.before[end..]
+        same(&cells[..start], &self.before[..start]) && same(&cells[end..], &self.before[end..])
     }
 
     /// Is every cell as it was, the lent ones included?
     pub fn all_hold(&self) -> bool {
-        *black_box(&self.cells) == self.before
+        same(black_box(&self.cells), &self.before)
     }
-}
 
-impl<T: Mark> Guarded<T> {
     /// Lends a copy of `lent`, with marks beside it or nothing.
     pub fn marked(lent: &[T], beside: Beside) -> Guarded<T> {
         match beside {
@@ -108,5 +153,13 @@ mod tests {
             assert_eq!(guarded.guards_hold(), lent, "place {place}");
             assert!(!guarded.all_hold());
         }
+    }
+
+    #[test]
+    fn floats_are_compared_by_bits() {
+        let mut guarded = Guarded::marked(&[f64::NAN, 0.0], Beside::Guards);
+        assert!(guarded.all_hold());
+        guarded.lent_mut()[1] = -0.0;
+        assert!(guarded.guards_hold() && !guarded.all_hold());
     }
 }

@@ -1,23 +1,27 @@
 //! The command `memory`.
 
-use reference::count::CALLS;
+use reference::count::{CALLS, IMPORTS};
 use reference::generate::{kind, Kind};
 
+use crate::compare;
 use crate::comparison::{Comparison, REFERENCES};
 use crate::guard::Beside;
 use crate::part::Part;
 
-/// Compares the cases of `count` seeds with nothing beside what is lent. To be run under valgrind,
-/// which is slow: late tapes, edges and slips are left out. Fails where something differs, or
-/// where a call's answer or one of its refusals was never met.
+/// Compares the cases, entries and models of `count` seeds with nothing beside what is lent. To be
+/// run under valgrind, which is slow: late tapes, edges and slips are left out. Fails where
+/// something differs, or where a call's answer or one of its refusals was never met.
 pub fn memory(count: u64, first_seed: u64) -> Result<(), String> {
     let mut comparison = Comparison::new(Beside::Nothing, None);
     let seeds = (0..count).map(|place| first_seed.wrapping_add(place));
     for seed in seeds.filter(|seed| kind(*seed) != Kind::Late) {
-        comparison.part = Part::Case(seed);
-        comparison.add_case(seed);
+        for part in Part::of_seed(seed) {
+            compare::add(&mut comparison, part);
+        }
     }
-    let of_calls = |heading: &str| CALLS.contains(&heading) || heading == REFERENCES;
+    let of_calls = |heading: &str| {
+        CALLS.contains(&heading) || IMPORTS.contains(&heading) || heading == REFERENCES
+    };
     print!("{}", comparison.counts.text_of(of_calls));
     println!("{}", comparison.summary());
     comparison.verdict()?;

@@ -16,19 +16,38 @@ pub enum Part {
     Slices,
     /// Multipliers whose floor is the ceiling.
     Equal,
+    /// Entries beside numbers, halves and powers of two.
+    Entries,
+    /// Models of every length, and with a faulty entry at every place.
+    Models,
     /// The case of a seed.
     Case(u64),
+    /// The entries of a seed.
+    EntriesOf(u64),
+    /// The models of a seed.
+    ModelsOf(u64),
 }
 
 impl Part {
-    /// All but the cases.
-    pub const EDGES: [Part; 5] = [
+    /// All that have no seed.
+    pub const EDGES: [Part; 7] = [
         Part::Slips,
         Part::Tapes,
         Part::Places,
         Part::Slices,
         Part::Equal,
+        Part::Entries,
+        Part::Models,
     ];
+
+    /// The parts of a seed.
+    pub fn of_seed(seed: u64) -> [Part; 3] {
+        [
+            Part::Case(seed),
+            Part::EntriesOf(seed),
+            Part::ModelsOf(seed),
+        ]
+    }
 
     /// The part, with the command that repeats it.
     pub fn origin(&self) -> String {
@@ -48,7 +67,11 @@ impl fmt::Display for Part {
             Part::Places => f.write_str("places"),
             Part::Slices => f.write_str("slices"),
             Part::Equal => f.write_str("equal"),
+            Part::Entries => f.write_str("entries"),
+            Part::Models => f.write_str("models"),
             Part::Case(seed) => write!(f, "{seed}"),
+            Part::EntriesOf(seed) => write!(f, "entries-{seed}"),
+            Part::ModelsOf(seed) => write!(f, "models-{seed}"),
         }
     }
 }
@@ -57,14 +80,14 @@ impl FromStr for Part {
     type Err = String;
 
     fn from_str(word: &str) -> Result<Part, String> {
-        let edge = Part::EDGES
+        // The seed is the number behind the last hyphen, or the whole word.
+        let number = word.rsplit('-').next().and_then(|last| last.parse().ok());
+        let of_seed = number.into_iter().flat_map(Part::of_seed);
+        Part::EDGES
             .into_iter()
-            .find(|edge| edge.to_string() == word);
-        match (edge, word.parse()) {
-            (Some(edge), _) => Ok(edge),
-            (None, Ok(seed)) => Ok(Part::Case(seed)),
-            (None, Err(_)) => Err(format!("`{word}` is neither a seed nor a part")),
-        }
+            .chain(of_seed)
+            .find(|part| part.to_string() == word)
+            .ok_or_else(|| format!("`{word}` is neither a seed nor a part"))
     }
 }
 
@@ -74,11 +97,12 @@ mod tests {
 
     #[test]
     fn each_part_is_read_as_it_is_written() {
-        let cases = [0, 4711, u64::MAX].map(Part::Case);
-        for part in Part::EDGES.into_iter().chain(cases) {
+        let of_seeds = [0, 4711, u64::MAX].map(Part::of_seed);
+        for part in Part::EDGES.into_iter().chain(of_seeds.concat()) {
             assert_eq!(part.to_string().parse(), Ok(part));
         }
-        assert!("case".parse::<Part>().is_err());
-        assert!("-1".parse::<Part>().is_err());
+        for word in ["case", "-1", "", "entries-", "slips-4", "models-4-5", "007"] {
+            assert!(word.parse::<Part>().is_err(), "{word}");
+        }
     }
 }

@@ -2,7 +2,8 @@
 
 use fibergravel as planner;
 use reference::cases::{read_numbers, reference_numbers};
-use reference::{Refusal, Solved};
+use reference::generate::Model;
+use reference::{Entry, Refusal, Solved};
 
 use crate::calls::{narrow, narrow_all, Answer, Call, Left, Lending};
 
@@ -74,6 +75,44 @@ fn same_refusal(found: planner::Refusal, expected: Refusal) -> bool {
     found.number() == u64::from(expected.number())
         && found.carried() == carried
         && found.word() == expected.word()
+}
+
+/// What the wrapper says of an entry, as a text, where it differs from the second program.
+pub fn entry_difference(entry: f64, expected: Result<Entry, Refusal>) -> Option<String> {
+    let found = planner::import_entry(entry);
+    let same = same(&found, &expected, |found, expected| {
+        match (*found, *expected) {
+            (planner::Entry::Whole(found), Entry::Whole(number)) => found == narrow(number),
+            (
+                planner::Entry::Near {
+                    number: found,
+                    leftover: left,
+                },
+                Entry::Near { number, leftover },
+            ) => found == narrow(number) && left.to_bits() == leftover.to_bits(),
+            _ => false,
+        }
+    });
+    (!same).then(|| format!("{found:?}"))
+}
+
+/// What the wrapper says of a model, as a text, where it differs from the second program.
+pub fn model_difference(
+    model: &Model,
+    expected: Result<(), Refusal>,
+    written: &[u8],
+) -> Option<String> {
+    let mut out = model.out.clone();
+    let Model {
+        states,
+        inputs,
+        a,
+        b,
+        ..
+    } = model;
+    let found = planner::import_model(*states, *inputs, a, b, &mut out);
+    let same = same(&found, &expected, |(), ()| true) && out == written;
+    (!same).then(|| format!("{found:?}, out {out:?}"))
 }
 
 /// The second program's answer in the wrapper's type.

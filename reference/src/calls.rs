@@ -1,4 +1,4 @@
-//! The public calls. Each takes the tape's bytes.
+//! The public calls of document 01. Each takes the tape's bytes.
 
 use crate::floor::{gap, shows_impossibility, Multipliers, MULTIPLIER_RANGE};
 use crate::model::{next_state, Furnace, Plan, Whole};

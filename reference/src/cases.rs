@@ -1,7 +1,9 @@
 //! A text of test cases, and the output expected from the planner's test programs.
 //!
 //! One case a line; blank lines and lines that begin with `#` are passed over. A part may be
-//! empty. Bytes are pairs of hexadecimal digits, with or without blanks between them.
+//! empty. Bytes are pairs of hexadecimal digits, with or without blanks between them. A float is
+//! the 16 digits of its bits, in upper case and the first of them first: 3FF0000000000000 is 1.
+//! Those of `model` are A's entries and then B's.
 //!
 //! ```text
 //! read HEX
@@ -9,6 +11,8 @@
 //! judge HEX / plan numbers / multipliers
 //! show HEX / multipliers
 //! solve HEX / plan numbers / multipliers
+//! entry HEX
+//! model HEX / n m a_len b_len out_len
 //! quotient dividend divisor / ..
 //! limit number lo hi / ..
 //! size number / ..
@@ -16,9 +20,11 @@
 //! operands HEX
 //! ```
 
+use std::any::type_name;
 use std::str::FromStr;
 
 use crate::calls::{judge_multipliers, judge_plan, read, solve, Shown, Solved};
+use crate::import::{import_entry, import_model, Entry};
 use crate::model::{floor_div, Column, Furnace, Whole};
 use crate::refusal::Refusal;
 use crate::tape::{signed, unsigned, MOST_COLUMNS, MOST_INPUTS, MOST_STATES, MOST_STEPS};
@@ -76,11 +82,47 @@ fn answer(line: &str) -> Result<String, String> {
             };
             Ok(answer + &listed("plan", plan) + &listed("multipliers", multipliers))
         }
-        ("read" | "steps" | "judge" | "show" | "solve", _) => {
+        ("entry", [entry]) => imported_entry(entry),
+        ("model", [entries, lengths]) => imported_model(entries, lengths),
+        ("read" | "steps" | "judge" | "show" | "solve" | "entry" | "model", _) => {
             Err(format!("`{call}` has another number of parts"))
         }
         _ => whole_numbers(call, &parts),
     }
+}
+
+/// The byte that every place of a lent `out` holds before a model is imported.
+const BEFORE: u8 = 7;
+
+/// The output line of an imported entry. The leftover is written as the number of its bits.
+fn imported_entry(entry: &str) -> Result<String, String> {
+    let [entry] = floats(entry)?[..] else {
+        return Err("`entry` has one float".to_string());
+    };
+    Ok(match import_entry(entry) {
+        Ok(Entry::Whole(number)) => format!("whole {number}\n"),
+        Ok(Entry::Near { number, leftover }) => format!("near {number} {}\n", leftover.to_bits()),
+        Err(refusal) => refused(refusal),
+    })
+}
+
+/// The output lines of an imported model: the answer, and what `out` holds then.
+fn imported_model(entries: &str, lengths: &str) -> Result<String, String> {
+    let entries = floats(entries)?;
+    let numbers: Vec<u32> = numbers(lengths)?;
+    let [states, inputs, of_a, of_b, bytes] = numbers[..] else {
+        return Err("`model` has 5 numbers behind its floats".to_string());
+    };
+    if entries.len() as u64 != u64::from(of_a) + u64::from(of_b) {
+        return Err(format!("{of_a} and {of_b} are not all the floats"));
+    }
+    let (a, b) = entries.split_at(of_a as usize);
+    let mut out = vec![BEFORE; bytes as usize];
+    let answer = match import_model(states as usize, inputs as usize, a, b, &mut out) {
+        Ok(()) => "written\n".to_string(),
+        Err(refusal) => refused(refusal),
+    };
+    Ok(answer + &listed("out", out))
 }
 
 /// The output line of a case of whole numbers: the result of each part.
@@ -229,13 +271,27 @@ pub fn bytes(text: &str) -> Result<Vec<u8>, String> {
     Ok(bytes)
 }
 
-/// Signed numbers of the type's width with blanks between them.
+/// Floats from the hexadecimal digits of their bits.
+fn floats(text: &str) -> Result<Vec<f64>, String> {
+    if text.bytes().any(|digit| digit.is_ascii_lowercase()) {
+        return Err("the digits of floats are in upper case".to_string());
+    }
+    let bytes = bytes(text)?;
+    let (patterns, rest) = bytes.as_chunks();
+    if !rest.is_empty() {
+        return Err("a float has 16 digits".to_string());
+    }
+    let bits = patterns.iter().map(|pattern| u64::from_be_bytes(*pattern));
+    Ok(bits.map(f64::from_bits).collect())
+}
+
+/// Numbers of the type with blanks between them.
 fn numbers<T: FromStr>(text: &str) -> Result<Vec<T>, String> {
-    let bits = 8 * size_of::<T>();
+    let name = type_name::<T>();
     text.split_whitespace()
         .map(|word| {
             word.parse()
-                .map_err(|_| format!("`{word}` is not a {bits}-bit signed number"))
+                .map_err(|_| format!("`{word}` is not a number of type {name}"))
         })
         .collect()
 }

@@ -1,5 +1,9 @@
 //! Counts of what the generated cases lead to, by call.
 
+mod import;
+
+pub use import::IMPORTS;
+
 use std::collections::BTreeMap;
 
 use crate::calls::{judge_multipliers, judge_plan, read, solve, Shown, Solved};
@@ -315,8 +319,11 @@ fn up_to(most: usize) -> Vec<String> {
 pub fn count_cases(count: u64, first_seed: u64) -> Counts {
     let mut counts = Counts::of_calls();
     counts.expect(STEPS, step_refusals());
+    counts.expect_imports();
     for place in 0..count {
-        counts.add_case(&case(first_seed.wrapping_add(place)));
+        let seed = first_seed.wrapping_add(place);
+        counts.add_case(&case(seed));
+        counts.add_imports(seed);
     }
     counts
 }

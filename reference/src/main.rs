@@ -24,8 +24,13 @@ reference expect < CASES
         judge HEX / plan numbers / multipliers
         show HEX / multipliers
         solve HEX / plan numbers / multipliers
+        entry HEX
+        model HEX / n m a_len b_len out_len
+    A float is the 16 hex digits of its bits, in upper case, the first of them first:
+    3FF0000000000000 is 1. `model` has the a_len entries of A and then the b_len entries of B;
+    its lent out has out_len bytes, all of them 7.
     Each case gives one line:
-        refused NUMBER CARRIED    CARRIED is an offset, R, or - for nothing
+        refused NUMBER CARRIED    CARRIED is an offset, R, an entry's count, or - for nothing
         read ..                   118 numbers: n m N, A by rows of 6, B by rows of 4, w, lo,
                                   hi, r, h, x(0), g, R, T; places beyond the sizes are 0
         steps ..                  240 numbers: the reference of command 31 for column c and
@@ -35,8 +40,12 @@ reference expect < CASES
         shown                     of show
         proved ROUNDS GAP d d d d    of solve, with u(0) in 4 places
         impossible ROUNDS         of solve
+        whole NUMBER              of entry
+        near NUMBER BITS          of entry, with the leftover's bits as an unsigned number
+        written                   of model
     After the line of a solve, refused or not, come two more lines, `plan ..` and
-    `multipliers ..`, with what the slices hold at exit.
+    `multipliers ..`, with what the slices hold at exit; after that of a model, refused or
+    not, a line `out ..` with the bytes that out holds at exit.
     Cases of whole numbers give the word again and a result for each part:
         quotient DIVIDEND DIVISOR / ..    rounded down
         limit NUMBER LO HI / ..           the number limited to lo and hi
@@ -47,10 +56,12 @@ reference expect < CASES
                                           unsigned and as signed
 
 reference generate [COUNT [SEED]]
-    Makes COUNT (10000) cases from the seeds SEED (0), SEED + 1, .., runs them through all
-    calls and writes how often each answer and each refusal came, how often 'proved' and
-    'impossible' came by rounds, sizes, rare shapes and curves, and how often a command 31
-    brought a refusal about. Fails if a count is 0, which is to be expected of a small COUNT.
+    Makes COUNT (10000) cases from the seeds SEED (0), SEED + 1, .., and for each seed 50
+    entries and 2 models in floats, runs them through all calls and writes how often each answer
+    and each refusal came, how often 'proved' and 'impossible' came by rounds, sizes, rare shapes
+    and curves, how often a command 31 brought a refusal about, and answers to entries and models
+    by kinds, sizes and rare shapes. Fails if a count is 0, which is to be expected of a small
+    COUNT.
 ";
 
 fn main() -> ExitCode {

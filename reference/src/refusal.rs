@@ -1,4 +1,4 @@
-//! The refusals, 1 to 15.
+//! The refusals, 1 to 17.
 
 /// Why a call gives no answer. Each case holds what the refusal carries.
 #[derive(Clone, Copy, Debug, PartialEq, Eq, PartialOrd, Ord)]
@@ -28,6 +28,8 @@ pub enum Refusal {
         /// Of the command byte.
         offset: usize,
     },
+    /// 5 of an import: n or m outside its range. It carries nothing.
+    ArgumentOutOfRange,
     /// 6: the same place, or 50, given again.
     Twice {
         /// Of the command byte.
@@ -43,7 +45,7 @@ pub enum Refusal {
         /// The offset after FF.
         offset: usize,
     },
-    /// 9: a lent slice has not the length that the tape's sizes ask for.
+    /// 9: a lent slice has not the length that the sizes ask for, the tape's or an import's.
     Length,
     /// 10: a state of the plan differs from the model.
     OffModel,
@@ -60,17 +62,28 @@ pub enum Refusal {
         /// The tape's R.
         rounds: u32,
     },
+    /// 16: an entry is infinite or not a number.
+    NotFinite {
+        /// Its count from 0, A before B; none where an entry is imported alone.
+        entry: Option<usize>,
+    },
+    /// 17: an entry's rounded number is beyond 16,384 in size.
+    TooLarge {
+        /// Its count from 0, A before B; none where an entry is imported alone.
+        entry: Option<usize>,
+    },
 }
 
 impl Refusal {
     /// The paper's number, word and carried number of the refusal.
-    fn entry(self) -> (u32, &'static str, Option<usize>) {
+    fn row(self) -> (u32, &'static str, Option<usize>) {
         match self {
             Refusal::Cut { offset } => (1, "cut", Some(offset)),
             Refusal::Unknown { offset } => (2, "unknown", Some(offset)),
             Refusal::Misplaced { offset } => (3, "misplaced", Some(offset)),
             Refusal::NoSuchPlace { offset } => (4, "no such place", Some(offset)),
             Refusal::OutOfRange { offset } => (5, "out of range", Some(offset)),
+            Refusal::ArgumentOutOfRange => (5, "out of range", None),
             Refusal::Twice { offset } => (6, "twice", Some(offset)),
             Refusal::Absent { offset } => (7, "absent", Some(offset)),
             Refusal::Overrun { offset } => (8, "overrun", Some(offset)),
@@ -81,21 +94,24 @@ impl Refusal {
             Refusal::Wide => (13, "wide", None),
             Refusal::NotShown => (14, "not shown", None),
             Refusal::Open { rounds } => (15, "open", Some(rounds as usize)),
+            Refusal::NotFinite { entry } => (16, "not finite", entry),
+            Refusal::TooLarge { entry } => (17, "too large", entry),
         }
     }
 
-    /// The number, 1 to 15.
+    /// The number, 1 to 17.
     pub fn number(self) -> u32 {
-        self.entry().0
+        self.row().0
     }
 
     /// The word in the paper's table.
     pub fn word(self) -> &'static str {
-        self.entry().1
+        self.row().1
     }
 
-    /// An offset for 1 to 8, R for 15, nothing for 9 to 14.
+    /// An offset for 1 to 8, R for 15, an entry's count for 16 and 17; nothing for 9 to 14, for 5 of
+    /// an import, and for 16 and 17 of an entry alone.
     pub fn carried(self) -> Option<usize> {
-        self.entry().2
+        self.row().2
     }
 }

@@ -90,6 +90,38 @@ fn steps_line_has_all_places() {
 }
 
 #[test]
+fn imports() {
+    let cases = "entry 3FF0000000000000\n\
+        entry BFF0000000000000\n\
+        entry 8000000000000000\n\
+        entry 0000000000000001\n\
+        entry BF20000000000000\n\
+        entry 7FF0000000000000\n\
+        entry 7FEFFFFFFFFFFFFF\n\
+        model 3FF0000000000000 3FE0000000000000 / 1 1 1 1 10\n\
+        model 3FF0000000000000BF30000000000000 / 1 1 1 1 10\n\
+        model 3FF00000000000007FF0000000000000 / 1 1 1 1 10\n\
+        model 3FF00000000000003FF0000000000000 / 1 1 1 1 9\n\
+        model 3FF0000000000000 / 1 1 0 1 2\n\
+        model / 7 1 0 0 0\n";
+    // −1/2 has the bits BFE0000000000000.
+    let expected = "whole 4096\n\
+        whole -4096\n\
+        whole 0\n\
+        near 0 4096\n\
+        near 0 13826050856027422720\n\
+        refused 16 -\n\
+        refused 17 -\n\
+        written\nout 32 0 0 0 16 33 0 0 0 8\n\
+        written\nout 32 0 0 0 16 33 0 0 255 255\n\
+        refused 16 1\nout 7 7 7 7 7 7 7 7 7 7\n\
+        refused 9 -\nout 7 7 7 7 7 7 7 7 7\n\
+        refused 9 -\nout 7 7\n\
+        refused 5 -\nout\n";
+    assert_eq!(expect(cases).unwrap(), expected);
+}
+
+#[test]
 fn whole_numbers() {
     let cases = "quotient -1 2 / 1 2 / -9223372036854775808 9223372036854775807\n\
         limit -4 -3 9 / 10 -3 9 / 5 -3 9\n\
@@ -122,6 +154,16 @@ fn texts_that_are_no_cases() {
         "limit 1 3 2",
         "size 9223372036854775808",
         "size",
+        "entry",
+        "entry 3FF000000000000",
+        "entry 3ff0000000000000",
+        "entry 3FF0000000000000 3FF0000000000000",
+        "entry 3FF0000000000000 / 1",
+        "model 3FF0000000000000",
+        "model 3FF0000000000000 / 1 1 1 1 10",
+        "model 3FF0000000000000 / 1 1 1 0",
+        "model 3FF0000000000000 / -1 1 1 0 10",
+        "model 3FF00000000000 / 1 1 1 0 10",
         "operands 01 02 03",
         "operands 01 02 03 04 / 05 06 07 08",
     ];

@@ -34,6 +34,21 @@ fn same_seed_same_case() {
 }
 
 #[test]
+fn same_seed_same_imports() {
+    // By bits, since what is not a number differs from itself.
+    let bits = |entries: &[f64]| entries.iter().map(|entry| entry.to_bits()).collect();
+    let all = |seed| -> Vec<Vec<u64>> {
+        let entries: Vec<f64> = generate::entries(seed).iter().map(|e| e.entry).collect();
+        let models = generate::models(seed);
+        let models = models.iter().map(|model| bits(&model.entries()));
+        models.chain([bits(&entries)]).collect()
+    };
+    for seed in 0..100 {
+        assert_eq!(all(seed), all(seed));
+    }
+}
+
+#[test]
 fn kinds_meant_to_be_accepted_are() {
     let mut longest = 0;
     for seed in SEEDS {

@@ -35,11 +35,21 @@ fn numbers_words_and_carried() {
         (Refusal::Wide, "wide", None),
         (Refusal::NotShown, "not shown", None),
         (Refusal::Open { rounds: 3 }, "open", Some(3)),
+        (Refusal::NotFinite { entry: Some(3) }, "not finite", Some(3)),
+        (Refusal::TooLarge { entry: Some(3) }, "too large", Some(3)),
     ];
     for (index, (refusal, word, carried)) in all.into_iter().enumerate() {
         assert_eq!(refusal.number() as usize, index + 1);
         assert_eq!(refusal.word(), word);
         assert_eq!(refusal.carried(), carried);
+    }
+    for (refusal, number, word) in [
+        (Refusal::ArgumentOutOfRange, 5, "out of range"),
+        (Refusal::NotFinite { entry: None }, 16, "not finite"),
+        (Refusal::TooLarge { entry: None }, 17, "too large"),
+    ] {
+        assert_eq!((refusal.number(), refusal.word()), (number, word));
+        assert_eq!(refusal.carried(), None);
     }
 }
 

@@ -1,13 +1,13 @@
 // Cases of the test programs: a line each, `read HEX`, `steps HEX`, `judge HEX / numbers / numbers`,
-// `show HEX / numbers` or `solve HEX / numbers / numbers`, as the second program takes them. What
-// follows a # is passed over.
+// `show HEX / numbers`, `solve HEX / numbers / numbers`, `entry HEX` or `model HEX / numbers`, as the
+// second program takes them. What follows a # is passed over.
 use tape::refusal::Carried;
 use tape::refusal::Refusal;
 use tape::refusal::carries;
 use tape::refusal::number;
 
 // A case as far as it has been read, character by character. The kind is a letter of the line's
-// word, 0 before it. Digits of a tape are 0 to 9 and A to F; numbers are decimal.
+// word, 0 before it. Digits of a tape, or of floats, are 0 to 9 and A to F; numbers are decimal.
 pub struct Case {
     pub kind: u8,
     pub comment: bool,
@@ -53,7 +53,7 @@ impl Case {
                 case.comment = true;
                 case
             }
-            b'r' | b'p' | b'j' | b'h' | b'v' => {
+            b'r' | b'p' | b'j' | b'h' | b'v' | b'y' | b'm' => {
                 case.kind = c;
                 case
             }
@@ -154,13 +154,13 @@ fn narrow(x: i64) -> i32 {
     x as i32
 }
 
-// Writes a refusal: its number, and what it carries, an offset or R, or `-`.
+// Writes a refusal: its number, and what it carries, a place or R, or `-`.
 pub fn refused(why: Refusal) {
     print::word(b"refused");
     print::unsigned(number(why) as u64);
     let carried = carries(why);
     match carried {
-        Carried::Offset(at) => print::unsigned(at as u64),
+        Carried::Place(at) => print::unsigned(at as u64),
         Carried::Nothing => print::word(b" -"),
         Carried::Rounds(rounds) => print::unsigned(rounds as u64),
     }

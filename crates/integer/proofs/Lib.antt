@@ -8,6 +8,8 @@ pub mod Quotient
 pub mod Square
 pub mod Limited
 pub mod Operand
+pub mod Encoding
 pub mod Places
+pub mod Middle
 pub mod Naturals
 pub mod Tests

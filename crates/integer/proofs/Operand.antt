@@ -8,7 +8,7 @@ use native.Mathlib.Nat.{pow-succ'}
 use native.Mathlib.Decide.{decLe}
 use lib.Dec.{ltb}
 use lib.ListN.{length, take, drop, getD, length-take, length-drop, List·getD-eq-default}
-use lib.Seq.{drop-cons, take-add, take-append-le, drop-append-le, drop-drop, getD-take, getD-drop}
+use lib.Seq.{drop-cons, take-add, take-append-le, drop-append-le, drop-append-add, drop-drop, getD-take, getD-drop}
 use lib.IntN.{ℤ, pos, negsuc, negℤ, _-ℤ_, _*ℤ_}
 use mir.Syntax.{w8}
 use mir.Val.{Fits}
@@ -31,6 +31,10 @@ pub operand-front : (k : ℕ) (xs ys : List ℕ) (at : ℕ) → at + k ≤ lengt
 operand-front k xs ys at h =
     ap (λ (l : List ℕ). take k l) (drop-append-le at xs ys (omega arith))
     ∙ take-append-le k (drop at xs) ys (simp length-drop (omega arith))
+
+-- and so do bytes before it
+pub operand-behind : (k : ℕ) (xs ys : List ℕ) (at : ℕ) → operand k (xs ++ ys) (length xs + at) ≡ operand k ys at
+operand-behind k xs ys at = ap (λ (l : List ℕ). take k l) (drop-append-add xs ys at)
 
 -- ---- Its value
 

@@ -12,7 +12,7 @@ use lib.Dec.{T, leb→le, le→leb, ltb→lt, lt→ltb}
 use lib.IntN.{ℤ, pos, negsuc, _+ℤ_, _-ℤ_, _*ℤ_}
 use lib.Signed.{leZ, ltZ}
 use Rattle.integer.specs.Order.{_≼_, _≺_}
-use Rattle.integer.proofs.Ring.{ring, K, _⊖_, _⊗_, _≐_}
+use Rattle.integer.proofs.Ring.{ring, K, _⊕_, _⊖_, _⊗_, _≐_}
 use Rattle.integer.proofs.Parts.{up, dn, same-parts, plus, minus, times}
 
 -- ---- The order by the parts
@@ -139,3 +139,24 @@ mul-cancel-lt k {a} {b} p h = go (le-or-lt b a)
     go : (b ≼ a) ⊎ (a ≺ b) → a ≺ b
     go (inl q) = let z : ⊥ = omega (arith, lt→ h, le→ (mul-le k p q)) in absurd z
     go (inr q) = q
+
+-- a factor from 1 on does the same to < and, taken off, to ≤ and =
+pub mul-lt : (k : ℤ) {a b : ℤ} → pos 1 ≼ k → a ≺ b → k *ℤ a ≺ k *ℤ b
+mul-lt k {a} {b} p h =
+    let l : a +ℤ pos 1 ≼ b = omega (arith, order, plus a (pos 1)) in
+    let m : k *ℤ (a +ℤ pos 1) ≼ k *ℤ b = mul-le k (omega (arith, order)) l in
+    let e : k *ℤ (a +ℤ pos 1) ≡ k *ℤ a +ℤ k = ring 2 (λ k a. k ⊗ (a ⊕ K 1) ≐ k ⊗ a ⊕ k) tt k a in
+    omega (arith, order, eq→ e, le→ m, plus (k *ℤ a) k)
+
+pub mul-cancel-le : (k : ℤ) {a b : ℤ} → pos 1 ≼ k → k *ℤ a ≼ k *ℤ b → a ≼ b
+mul-cancel-le k {a} {b} p h = go (le-or-lt a b)
+  where
+    go : (a ≼ b) ⊎ (b ≺ a) → a ≼ b
+    go (inl q) = q
+    go (inr q) = let z : ⊥ = omega (arith, le→ h, lt→ (mul-lt k p q)) in absurd z
+
+pub mul-cancel : (k : ℤ) {a b : ℤ} → pos 1 ≼ k → k *ℤ a ≡ k *ℤ b → a ≡ b
+mul-cancel k {a} {b} p e =
+    let l : a ≼ b = mul-cancel-le k p (omega (arith, order, eq→ e)) in
+    let m : b ≼ a = mul-cancel-le k p (omega (arith, order, eq→ e)) in
+    omega (arith, order)

@@ -5,4 +5,5 @@ pub mod Limited
 pub mod Tests
 pub mod Sum
 pub mod Operand
+pub mod Encoding
 pub mod Places

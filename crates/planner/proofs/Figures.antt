@@ -14,7 +14,7 @@ use Rattle.tape.specs.declared.Answer.{Answer}
 use Rattle.tape.specs.declared.Answer.the-variants as answer
 use Rattle.tape.specs.declared.Tape.{Tape}
 use Rattle.tape.specs.declared.refusal.Refusal.{Refusal}
-use Rattle.tape.specs.declared.refusal.Refusal.the-variants.{Cut, Unknown, Misplaced, NoSuchPlace, OutOfRange, Twice, Absent, Overrun, Length, OffModel, OverLimit, Multiplier, Wide, NotShown, Open}
+use Rattle.tape.specs.declared.refusal.Refusal.the-variants.{Cut, Unknown, Misplaced, NoSuchPlace, OutOfRange, Twice, Absent, Overrun, Length, OffModel, OverLimit, Multiplier, Wide, NotShown, Open, ArgumentOutOfRange, NotFinite, TooLarge}
 use Rattle.tape.specs.Reading.{reading}
 use Rattle.tape.specs.Refusals.{row, figure}
 use Rattle.tape.proofs.Facts.{legal}
@@ -46,7 +46,7 @@ abbrev pub Small : Refusal → Type 0
 Small why = figure (row why .carries) ≤ 10000
 
 -- a refusal's number
-pub number-range : (why : Refusal) → (1 ≤ row why .number) × (row why .number ≤ 15)
+pub number-range : (why : Refusal) → (1 ≤ row why .number) × (row why .number ≤ 17)
 number-range (Cut at) = omega arith
 number-range (Unknown at) = omega arith
 number-range (Misplaced at) = omega arith
@@ -62,6 +62,9 @@ number-range Multiplier = omega arith
 number-range Wide = omega arith
 number-range NotShown = omega arith
 number-range (Open R) = omega arith
+number-range ArgumentOutOfRange = omega arith
+number-range (NotFinite count) = omega arith
+number-range (TooLarge count) = omega arith
 
 -- ---- Reading
 

@@ -26,7 +26,7 @@ use Rattle.planner.specs.Demand.{BackedBy, FoundedBy, Says, firstIn, Uph
 use Rattle.planner.proofs.Figures.{number-range}
 
 -- a refusal's code is not 0
-refused : (why : Refusal) → codeOf why ≡ 0 → ⊥
+pub refused : (why : Refusal) → codeOf why ≡ 0 → ⊥
 refused why e = omega (arith, number-range why)
 
 pub backed-by : (r : Judged) (before plan y : List ℤ) (t : Tape) → Backed r t plan y → BackedBy (judgedCode r) (judgedLeft r before) t plan y

@@ -1,3 +1,4 @@
 -- The definitions that promises cite.
 pub mod Calls
 pub mod Demand
+pub mod Imports

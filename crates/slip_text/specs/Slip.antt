@@ -4,7 +4,7 @@ use mathlib.Core.List.{List, [], _∷_, _++_}
 use lib.ListN.{length, take, replicate}
 use lib.IntN.{ℤ}
 use Rattle.tape.specs.declared.refusal.Carried.{Carried}
-use Rattle.tape.specs.declared.refusal.Carried.the-variants.{Offset, Nothing, Rounds}
+use Rattle.tape.specs.declared.refusal.Carried.the-variants.{Place, Nothing, Rounds}
 use Rattle.tape.specs.Refusals.{row}
 use Rattle.solver.specs.declared.Duties.{Duties}
 use Rattle.solver.specs.declared.Solved.{Solved}
@@ -44,7 +44,7 @@ refusedNumber number = text "refused " ++ decimal number
 -- A refusal by its number and what it carries: a tape's refusal has an offset, 'open' the rounds. The refusals 9 to 14
 -- carry nothing; the printing program never meets one, since it lends slices of the right lengths and judges nothing.
 abbrev pub refusalLines : ℕ → Carried → List ℕ
-refusalLines number (Offset at) = line (refusedNumber number ++ (text " at " ++ decimal at))
+refusalLines number (Place at) = line (refusedNumber number ++ (text " at " ++ decimal at))
 refusalLines number Nothing = line (refusedNumber number)
 refusalLines number (Rounds R) = line (text "open") ++ roundsLine R
 

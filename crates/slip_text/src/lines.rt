@@ -85,7 +85,7 @@ fn refused_number(number: usize) -> Text
 }
 
 fn refused_at(number: usize, at: usize) -> Text
-    ensures { λ r. ⌜ Holds r (refusalLines number (Carried.Offset at)) ⌝ }
+    ensures { λ r. ⌜ Holds r (refusalLines number (Carried.Place at)) ⌝ }
 {
     let numbered = refused_number(number);
     let named = numbered.with_word(b" at ");
@@ -99,7 +99,7 @@ pub fn refused(why: Refusal) -> Text
     let n = number(why);
     let carried = carries(why);
     match carried {
-        Carried::Offset(at) => refused_at(n, at),
+        Carried::Place(at) => refused_at(n, at),
         Carried::Nothing => refused_number(n).with_word(b"\n"),
         Carried::Rounds(rounds) => kind_and_rounds(b"open\n", rounds),
     }

@@ -1,36 +1,23 @@
 -- Parts of a slice that are lent one after the other and come back filled, and the numbers that stand first in a plan.
 use Prim.Native.Nat.{ℕ, _+_, _*_, _-_, _<_, _≤_}
 use mathlib.Core.Path.{_≡_, refl, sym, _∙_, ap, ap₂}
-use mathlib.Core.List.{List, _++_, append-assoc}
+use mathlib.Core.List.{List, _++_}
 use native.Mathlib.Omega.{arith}
-use lib.ListN.{length, take, drop, length-append}
-use lib.Seq.{length-take-le, take-all, take-at}
+use lib.ListN.{length, take}
+use lib.Seq.{take-all}
 use lib.IntN.{ℤ}
-use borrow.Rule.Slice.PartMut.{midOf, putMid, same-len-mid, mid-len}
+use borrow.Rule.Slice.PartMut.{midOf, putMid}
 use Rattle.integer.specs.Places.{at}
 use Rattle.integer.proofs.Places.{step-room}
+use Rattle.integer.proofs.Middle.{length-part, length-put, front-put}
 use Rattle.problem.specs.Model.{Plan}
 use Rattle.rounds.specs.Lent.{listed, joined, lentPlan}
 use Rattle.rounds.proofs.Lent.{length-listed, joined-more, lent-plan-input}
 
--- ---- A part that is lent as `&mut xs[a..e]`, w long, and comes back as zs
+-- ---- Two parts
 
-module _ (a e w : ℕ) (xs : List ℤ) (h : a + w ≡ e) (l : e ≤ length xs) where
-  length-part : length (midOf a (e - a) xs) ≡ w
-  length-part = mid-len a e xs l ∙ omega arith
-
-  part-listed : (zs : List ℤ) (f : ℕ → ℤ) → zs ≡ listed (length (midOf a (e - a) xs)) f → zs ≡ listed w f
-  part-listed zs f z = z ∙ ap (λ (n : ℕ). listed n f) length-part
-
-  module _ (zs : List ℤ) (n : length zs ≡ w) where
-    length-put : length (putMid a (e - a) xs zs) ≡ length xs
-    length-put = same-len-mid a (e - a) xs zs (n ∙ sym length-part)
-
-    front-put : take e (putMid a (e - a) xs zs) ≡ take a xs ++ zs
-    front-put =
-        ap (take e) (sym (append-assoc (take a xs) zs (drop (e - a) (drop a xs))))
-        ∙ take-at (take a xs ++ zs) (drop (e - a) (drop a xs)) e
-        (length-append (take a xs) zs ∙ omega (arith, length-take-le a xs (omega arith)))
+part-listed : (a e w : ℕ) (xs : List ℤ) → a + w ≡ e → e ≤ length xs → (zs : List ℤ) (f : ℕ → ℤ) → zs ≡ listed (length (midOf a (e - a) xs)) f → zs ≡ listed w f
+part-listed a e w xs h l zs f z = z ∙ ap (λ (n : ℕ). listed n f) (length-part a e w xs h l)
 
 -- two parts that make the whole, filled one after the other
 pub both-listed : (m n : ℕ) (xs ys zs : List ℤ) (f g : ℕ → ℤ) → length xs ≡ m + n → ys ≡ listed (length (midOf 0 (m - 0) xs)) f →

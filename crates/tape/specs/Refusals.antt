@@ -1,15 +1,16 @@
--- Document 01's table of refusals.
+-- Document 01's table of refusals, and 16 and 17 of document 02, request 2.
 use Prim.Native.Nat.{ℕ}
 use Prim.Native.String.{String}
 use Rattle.tape.specs.declared.refusal.Carried.{Carried}
-use Rattle.tape.specs.declared.refusal.Carried.the-variants.{Offset, Nothing, Rounds}
+use Rattle.tape.specs.declared.refusal.Carried.the-variants.{Place, Nothing, Rounds}
 use Rattle.tape.specs.declared.refusal.Refusal.{Refusal}
 use Rattle.tape.specs.declared.refusal.Refusal.the-variants.{Cut, Unknown, Misplaced, NoSuchPlace, OutOfRange, Twice, Absent, Overrun}
 use Rattle.tape.specs.declared.refusal.Refusal.the-variants.{Length, OffModel, OverLimit, Multiplier, Wide, NotShown, Open}
+use Rattle.tape.specs.declared.refusal.Refusal.the-variants.{ArgumentOutOfRange, NotFinite, TooLarge}
 
 -- What a refusal carries, as one number.
 abbrev pub figure : Carried → ℕ
-figure (Offset at) = at
+figure (Place at) = at
 figure Nothing = 0
 figure (Rounds R) = R
 
@@ -21,16 +22,17 @@ pub record Row : Type 0 where
 abbrev pub rowOf : ℕ → String → Carried → Row
 rowOf number word carries = record { number = number; word = word; carries = carries }
 
--- A tape's refusal carries an offset; 9 to 14 carry nothing; 15 carries R.
+-- A tape's refusal carries an offset; 9 to 14 carry nothing; 15 carries R. An argument out of range carries nothing; 16 and 17 carry
+-- the entry's count.
 abbrev pub row : Refusal → Row
-row (Cut at) = rowOf 1 "cut" (Offset at)
-row (Unknown at) = rowOf 2 "unknown" (Offset at)
-row (Misplaced at) = rowOf 3 "misplaced" (Offset at)
-row (NoSuchPlace at) = rowOf 4 "no such place" (Offset at)
-row (OutOfRange at) = rowOf 5 "out of range" (Offset at)
-row (Twice at) = rowOf 6 "twice" (Offset at)
-row (Absent at) = rowOf 7 "absent" (Offset at)
-row (Overrun at) = rowOf 8 "overrun" (Offset at)
+row (Cut at) = rowOf 1 "cut" (Place at)
+row (Unknown at) = rowOf 2 "unknown" (Place at)
+row (Misplaced at) = rowOf 3 "misplaced" (Place at)
+row (NoSuchPlace at) = rowOf 4 "no such place" (Place at)
+row (OutOfRange at) = rowOf 5 "out of range" (Place at)
+row (Twice at) = rowOf 6 "twice" (Place at)
+row (Absent at) = rowOf 7 "absent" (Place at)
+row (Overrun at) = rowOf 8 "overrun" (Place at)
 row Length = rowOf 9 "length" Nothing
 row OffModel = rowOf 10 "off model" Nothing
 row OverLimit = rowOf 11 "over limit" Nothing
@@ -38,3 +40,6 @@ row Multiplier = rowOf 12 "multiplier" Nothing
 row Wide = rowOf 13 "wide" Nothing
 row NotShown = rowOf 14 "not shown" Nothing
 row (Open R) = rowOf 15 "open" (Rounds R)
+row ArgumentOutOfRange = rowOf 5 "out of range" Nothing
+row (NotFinite count) = rowOf 16 "not finite" (Place count)
+row (TooLarge count) = rowOf 17 "too large" (Place count)

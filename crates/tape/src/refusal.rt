@@ -1,4 +1,5 @@
-// Refusals, in the order of document 01's table.
+// Refusals, in the order of document 01's table; then those of calls that take no tape, an import's
+// (document 02, request 2).
 ghost use mathlib.Core.Path.{_≡_};
 ghost use Rattle.tape.specs.Refusals.{row, figure};
 
@@ -18,6 +19,9 @@ pub enum Refusal {
     Wide,
     NotShown,
     Open(usize),
+    ArgumentOutOfRange,
+    NotFinite(usize),
+    TooLarge(usize),
 }
 
 pub fn number(refusal: Refusal) -> usize
@@ -39,12 +43,16 @@ pub fn number(refusal: Refusal) -> usize
         Refusal::Wide => 13,
         Refusal::NotShown => 14,
         Refusal::Open(_) => 15,
+        Refusal::ArgumentOutOfRange => 5,
+        Refusal::NotFinite(_) => 16,
+        Refusal::TooLarge(_) => 17,
     }
 }
 
-// What a refusal carries: an offset of the tape, nothing, or the rounds R.
+// What a refusal carries: the place where it was found, which is an offset of the tape or the count of
+// an entry; nothing; or the rounds R.
 pub enum Carried {
-    Offset(usize),
+    Place(usize),
     Nothing,
     Rounds(usize),
 }
@@ -53,14 +61,14 @@ pub fn carries(refusal: Refusal) -> Carried
     ensures { λ r. ⌜ r ≡ row refusal .carries ⌝ }
 {
     match refusal {
-        Refusal::Cut(at) => Carried::Offset(at),
-        Refusal::Unknown(at) => Carried::Offset(at),
-        Refusal::Misplaced(at) => Carried::Offset(at),
-        Refusal::NoSuchPlace(at) => Carried::Offset(at),
-        Refusal::OutOfRange(at) => Carried::Offset(at),
-        Refusal::Twice(at) => Carried::Offset(at),
-        Refusal::Absent(at) => Carried::Offset(at),
-        Refusal::Overrun(at) => Carried::Offset(at),
+        Refusal::Cut(at) => Carried::Place(at),
+        Refusal::Unknown(at) => Carried::Place(at),
+        Refusal::Misplaced(at) => Carried::Place(at),
+        Refusal::NoSuchPlace(at) => Carried::Place(at),
+        Refusal::OutOfRange(at) => Carried::Place(at),
+        Refusal::Twice(at) => Carried::Place(at),
+        Refusal::Absent(at) => Carried::Place(at),
+        Refusal::Overrun(at) => Carried::Place(at),
         Refusal::Length => Carried::Nothing,
         Refusal::OffModel => Carried::Nothing,
         Refusal::OverLimit => Carried::Nothing,
@@ -68,6 +76,9 @@ pub fn carries(refusal: Refusal) -> Carried
         Refusal::Wide => Carried::Nothing,
         Refusal::NotShown => Carried::Nothing,
         Refusal::Open(rounds) => Carried::Rounds(rounds),
+        Refusal::ArgumentOutOfRange => Carried::Nothing,
+        Refusal::NotFinite(count) => Carried::Place(count),
+        Refusal::TooLarge(count) => Carried::Place(count),
     }
 }
 
@@ -77,7 +88,7 @@ pub fn figure(refusal: Refusal) -> usize
 {
     let carried = carries(refusal);
     match carried {
-        Carried::Offset(at) => at,
+        Carried::Place(at) => at,
         Carried::Nothing => 0,
         Carried::Rounds(rounds) => rounds,
     }

@@ -1,17 +1,23 @@
-//! Tapes, plans and multipliers made from a seed, the same for the same seed on every machine.
+//! Tapes, plans, multipliers, entries and models made from a seed, the same for the same seed on
+//! every machine.
 //!
 //! [`tape`] gives a tape; [`case`] gives the same tape with slices to lend to the calls.
+//! [`entries()`] and [`models()`] give what is to be imported.
 
 pub mod commands;
 pub mod curves;
 pub mod damage;
+pub mod entries;
 pub mod furnaces;
 pub mod late;
 pub mod lent;
+pub mod models;
 pub mod random;
 pub mod rare;
 
+pub use entries::{EntryKind, GeneratedEntry};
 pub use lent::Lent;
+pub use models::Model;
 pub use random::Random;
 
 use crate::model::Furnace;
@@ -97,6 +103,24 @@ pub fn case(seed: u64) -> Case {
         judged,
         solved,
     }
+}
+
+/// How many entries a seed has.
+pub const ENTRIES: usize = 50;
+
+/// How many models a seed has.
+pub const MODELS: usize = 2;
+
+/// The entries of a seed.
+pub fn entries(seed: u64) -> Vec<GeneratedEntry> {
+    let mut random = Random::new(seed);
+    (0..ENTRIES).map(|_| entries::any(&mut random)).collect()
+}
+
+/// The models of a seed.
+pub fn models(seed: u64) -> Vec<Model> {
+    let mut random = Random::new(seed);
+    (0..MODELS).map(|_| models::any(&mut random)).collect()
 }
 
 /// The kind of a seed's tape, which is not made for it.

@@ -1,0 +1,8 @@
+-- The laws, each file on the ones before it.
+pub mod Bounds
+pub mod Product
+pub mod Meaning
+pub mod Tested
+pub mod Output
+pub mod ReadBack
+pub mod Figures

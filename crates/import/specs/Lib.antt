@@ -1,0 +1,3 @@
+-- The definitions that promises cite.
+pub mod Entries
+pub mod Models

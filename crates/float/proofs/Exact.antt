@@ -1,20 +1,22 @@
 -- Where no operation rounds: a difference and a product by 4096 whose digits are few enough.
 use Prim.Native.Nat.{ℕ, zero, suc, _+_, _-_, _*_, _%_, _^_, _≤_, _<_}
 use mathlib.Core.Path.{_≡_, refl, sym, ap, _∙_, subst}
-use mathlib.Core.Bool.{Bool, true, false, not, _&&_, cond}
+use mathlib.Core.Bool.{Bool, true, false, not, _&&_}
 use native.Mathlib.Omega.{arith}
 use native.Mathlib.Nat.{pow-succ', mul-assoc, mul-one, mul-right-comm, mul-pos, lt-of-lt-of-le, not-le-of-lt, lt-of-not-le, le-of-suc-le-suc}
-use lib.Dec.{T, ltb, leb, eqb, ltb→lt, nltb→le, leb→le, eqb→eq}
+use lib.Dec.{T, ltb, leb, eqb, ltb→lt, leb→le, eqb→eq}
 use lib.Pow.{pow-add, pow-pos, pow-lt, pow-mono, shl-lt}
 use lib.IntN.{ℤ, pos, negsuc, negℤ, natAbs, _+ℤ_, _-ℤ_, _*ℤ_}
 use lib.Ieee.{Float, fin, Format, binary64, up, down, round, sum, add, sub, neg, mul, fits, unlike}
 use lib.Ieee.Fits.{and-l, and-r, down-pos}
 use lib.Ieee.Exact.{HasValue, round-exact}
 use lib.Ieee.Scale.{round-same}
+use borrow.Author.Tests.{ltb-true, ltb-false}
 use Rattle.integer.proofs.Parts.{plus, negated, times}
 use Rattle.integer.proofs.Ring.{ring, K, _⊖_, _⊗_, _≐_}
 use Rattle.integer.proofs.Order.{order, eq→, mul-cancel}
 use Rattle.integer.proofs.Sizes.{size-product}
+use Rattle.integer.proofs.Tests.{by-test}
 use Rattle.float.specs.Value.{Finite, signed, numerator, denominator, Equals, floatOf}
 use Rattle.float.proofs.Signs.{signed-mul, signed-not, signed-size}
 use Rattle.float.proofs.Values.{from-one, of-value, rescaled, denominator-pos}
@@ -70,9 +72,10 @@ pub record Summed (f : Format) (x : Float) (z : ℤ) (c : ℕ) : Type 0 where
   pub rounds : x ≡ round f sign size c
   pub is : signed sign size ≡ z
 
-by-test : (b : Bool) (P : Bool → Type 0) → (T b → P true) → (T (not b) → P false) → P b
-by-test true P f g = f tt
-by-test false P f g = g tt
+-- the sign of a difference of negative numbers is a test of its own
+turned : (f : Format) (s : Bool) (n c : ℕ) {z : ℤ} → (s ≡ true → negℤ (pos n) ≡ z) → (s ≡ false → pos n ≡ z) → Summed f (round f s n c) z c
+turned f true n c g h = record { sign = true; size = n; rounds = refl; is = g refl }
+turned f false n c g h = record { sign = false; size = n; rounds = refl; is = h refl }
 
 summed : (f : Format) (s : Bool) (a : ℕ) (t : Bool) (b c : ℕ) → Summed f (sum f s a t b c) (signed s a +ℤ signed t b) c
 unfolding sum
@@ -84,16 +87,20 @@ summed f true a true b c = record {
   is = omega (arith, order, plus (negℤ (pos a)) (negℤ (pos b)), negated (pos a), negated (pos b), negated (pos (a + b)));
 }
 summed f false a true b c =
-    by-test (ltb a b) (λ y. Summed f (cond y (round f true (b - a) c) (round f false (a - b) c)) (pos a +ℤ negℤ (pos b)) c)
-    (λ h. record { sign = true; size = b - a; rounds = refl; is = omega (arith, order, ltb→lt a b h, plus (pos a) (negℤ (pos b)), negated (pos b), negated (pos (b - a))) })
-    (λ h. record { sign = false; size = a - b; rounds = refl; is = omega (arith, order, nltb→le a b h, plus (pos a) (negℤ (pos b)), negated (pos b)) })
+    let z = pos a +ℤ negℤ (pos b) in
+    let p = plus (pos a) (negℤ (pos b)) in
+    by-test (λ (x : Float). Summed f x z c) (ltb a b)
+    (λ e. record { sign = true; size = b - a; rounds = refl; is = omega (arith, order, ltb-true a b e, p, negated (pos b), negated (pos (b - a))) })
+    (λ e. record { sign = false; size = a - b; rounds = refl; is = omega (arith, order, ltb-false a b e, p, negated (pos b)) })
 summed f true a false b c =
-    by-test (ltb a b) (λ y. Summed f (cond y (round f false (b - a) c) (round f (ltb b a) (a - b) c)) (negℤ (pos a) +ℤ pos b) c)
-    (λ h. record { sign = false; size = b - a; rounds = refl; is = omega (arith, order, ltb→lt a b h, plus (negℤ (pos a)) (pos b), negated (pos a)) })
-    (λ h.
-    by-test (ltb b a) (λ y. Summed f (round f y (a - b) c) (negℤ (pos a) +ℤ pos b) c)
-    (λ k. record { sign = true; size = a - b; rounds = refl; is = omega (arith, order, ltb→lt b a k, plus (negℤ (pos a)) (pos b), negated (pos a), negated (pos (a - b))) })
-    (λ k. record { sign = false; size = a - b; rounds = refl; is = omega (arith, order, nltb→le a b h, nltb→le b a k, plus (negℤ (pos a)) (pos b), negated (pos a)) }))
+    let z = negℤ (pos a) +ℤ pos b in
+    let p = plus (negℤ (pos a)) (pos b) in
+    by-test (λ (x : Float). Summed f x z c) (ltb a b)
+    (λ e. record { sign = false; size = b - a; rounds = refl; is = omega (arith, order, ltb-true a b e, p, negated (pos a)) })
+    (λ e.
+    turned f (ltb b a) (a - b) c
+    (λ t. omega (arith, order, ltb-true b a t, p, negated (pos a), negated (pos (a - b))))
+    (λ t. omega (arith, order, ltb-false a b e, ltb-false b a t, p, negated (pos a))))
 
 differs : (f : Format) (x y : Float) → Finite x → Finite y → Summed f (sub f x y) (numerator x *ℤ pos (denominator y) -ℤ numerator y *ℤ pos (denominator x)) (denominator x * denominator y)
 unfolding sub add neg

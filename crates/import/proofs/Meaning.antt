@@ -90,18 +90,27 @@ module _ (a : Float) (f : Finite a) where
         let v = rw (leftover-is a f g s (broken (number a))) at (leftover-value a f g s) in
         record { broken = broken; exactly = v; range = under-half (scaled a) (denominator a) (number a) _ (denominator-pos a) (is-nearest a f) v }
 
-pub exact : (a : Float) → T (fits binary64 a) → Exact a (imported a)
+-- P of what `imported` gives, from P of each of its cases and what the tests say there
+by-case : (P : Entry → Type 0) (a : Float) → (finite a ≡ false → P NotFinite) → (Finite a → 16384 < natAbs (number a) → P TooLarge)
+    → (Finite a → natAbs (number a) ≤ 16384 → natAbs (rest a) ≡ 0 → P (Whole (number a)))
+    → (Finite a → natAbs (number a) ≤ 16384 → (natAbs (rest a) ≡ 0 → ⊥) → P (Near (number a) (floatOf (rest a) (denominator a)))) → P (imported a)
 unfolding imported
-exact a g =
-    by-test (Exact a) (finite a)
+by-case P a not-finite large whole near =
+    by-test P (finite a)
     (λ e. let f = subst T (sym e) tt in
-    by-test (Exact a) (ltb 16384 (natAbs (number a)))
-    (λ t. (number a, rounds a f, ltb-true 16384 (natAbs (number a)) t))
+    by-test P (ltb 16384 (natAbs (number a)))
+    (λ t. large f (ltb-true 16384 (natAbs (number a)) t))
     (λ t. let s = ltb-false 16384 (natAbs (number a)) t in
-    by-test (Exact a) (eqb (natAbs (rest a)) 0)
-    (λ z. (rounds a f, s, is-number a f (eqb-true (natAbs (rest a)) 0 z)))
-    (λ z. (rounds a f, s, left a f g s (eqb-false (natAbs (rest a)) 0 z)))))
-    (λ e. λ f. true≢false (sym (is-true (finite a) f) ∙ e))
+    by-test P (eqb (natAbs (rest a)) 0) (λ z. whole f s (eqb-true (natAbs (rest a)) 0 z)) (λ z. near f s (eqb-false (natAbs (rest a)) 0 z))))
+    not-finite
+
+pub exact : (a : Float) → T (fits binary64 a) → Exact a (imported a)
+exact a g =
+    by-case (Exact a) a
+    (λ e f. true≢false (sym (is-true (finite a) f) ∙ e))
+    (λ f s. (number a, rounds a f, s))
+    (λ f s z. (rounds a f, s, is-number a f z))
+    (λ f s z. (rounds a f, s, left a f g s z))
 
 -- ---- What `import_entry` hands over, by what its tests have found
 
@@ -146,20 +155,10 @@ pub not-written : (why : Refusal) → Refused why ≡ Written → ⊥
 unfolding is-written
 not-written why e = true≢false (sym (ap is-written e))
 
--- P of what `imported` gives, from P of each of its cases
-by-case : (P : Entry → Type 0) (a : Float) → P NotFinite → P TooLarge
-    → (natAbs (number a) ≤ 16384 → P (Whole (number a))) → (natAbs (number a) ≤ 16384 → P (Near (number a) (floatOf (rest a) (denominator a)))) → P (imported a)
-unfolding imported
-by-case P a f l w n =
-    by-test P (finite a)
-    (λ e. by-test P (ltb 16384 (natAbs (number a))) (λ t. l)
-    (λ t. let s = ltb-false 16384 (natAbs (number a)) t in by-test P (eqb (natAbs (rest a)) 0) (λ z. w s) (λ z. n s)))
-    (λ e. f)
-
 pub number-small : (a : Float) → natAbs (numberIn (imported a)) ≤ 16384
-number-small a = by-case (λ r. natAbs (numberIn r) ≤ 16384) a (omega arith) (omega arith) (λ s. s) (λ s. s)
+number-small a = by-case (λ r. natAbs (numberIn r) ≤ 16384) a (λ e. omega arith) (λ f s. omega arith) (λ f s z. s) (λ f s z. s)
 
 pub number-in : (count : ℕ) (a : Float) → verdict count (imported a) ≡ Written → numberIn (imported a) ≡ number a
 number-in count a =
     by-case (λ r. verdict count r ≡ Written → numberIn r ≡ number a) a
-    (λ e. absurd (not-written (refusal.NotFinite count) e)) (λ e. absurd (not-written (refusal.TooLarge count) e)) (λ s e. refl) (λ s e. refl)
+    (λ e w. absurd (not-written (refusal.NotFinite count) w)) (λ f s w. absurd (not-written (refusal.TooLarge count) w)) (λ f s z w. refl) (λ f s z w. refl)

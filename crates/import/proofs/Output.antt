@@ -1,5 +1,5 @@
 -- Commands written one behind the other.
-use Prim.Native.Nat.{ℕ, suc, _+_, _-_, _*_, _/_, _%_, _<_, _≤_}
+use Prim.Native.Nat.{ℕ, suc, _+_, _-_, _*_, _/_, _%_, _^_, _<_, _≤_}
 use mathlib.Core.Path.{_≡_, refl, sym, ap, _∙_}
 use mathlib.Core.List.{List, [], _∷_, _++_, append-assoc, append-nil}
 use native.Mathlib.Omega.{arith}
@@ -7,15 +7,15 @@ use native.Mathlib.Nat.{add-zero}
 use native.Mathlib.Numerals.{add-one}
 use lib.ListN.{length, getD, set, take, drop, length-append, length-set, length-drop, drop-of-length-le}
 use lib.Seq.{take-suc, take-at, length-take-le}
-use lib.IntN.{ℤ, pos, negsuc, natAbs, _+ℤ_}
+use lib.IntN.{ℤ, pos, negsuc, negℤ, natAbs, _+ℤ_, _*ℤ_}
 use lib.Ieee.{Float, nan}
 use borrow.Rule.Slice.PartMut.{putMid}
 use Rattle.integer.specs.Order.{_≼_, _≺_}
 use Rattle.integer.specs.Encoding.{unsignedBytes, complement}
-use Rattle.integer.proofs.Parts.{plus}
+use Rattle.integer.proofs.Parts.{plus, negated, times}
 use Rattle.integer.proofs.Order.{order, lt→}
 use Rattle.integer.proofs.Sizes.{size-parts}
-use Rattle.integer.proofs.Encoding.{bytes-length}
+use Rattle.integer.proofs.Encoding.{bytes-length, complement-small}
 use Rattle.import.specs.Entries.{imported}
 use Rattle.import.specs.Models.{numberIn, command, commandsFrom}
 
@@ -34,10 +34,11 @@ unfolding complement
 complement-from (pos n) h = refl
 complement-from (negsuc n) h = absurd (h .le)
 
+pub in-two-bytes : (k : ℤ) → natAbs k ≤ 16384 → (negℤ (pos (256 ^ 2)) ≼ pos 2 *ℤ k) × (pos 2 *ℤ k ≺ pos (256 ^ 2))
+in-two-bytes k h = (omega (arith, order, size-parts k, negated (pos (256 ^ 2)), times (pos 2) k), omega (arith, order, size-parts k, times (pos 2) k))
+
 pub complement-word : (k : ℤ) → natAbs k ≤ 16384 → complement 2 k < 65536
-unfolding complement
-complement-word (pos n) h = omega arith
-complement-word (negsuc n) h = omega arith
+complement-word k h = let r = in-two-bytes k h in complement-small 2 k (r .0) (r .1)
 
 pub two-bytes : (u : ℕ) → u < 65536 → u % 256 ∷ u / 256 ∷ [] ≡ unsignedBytes 2 u
 unfolding unsignedBytes

@@ -13,9 +13,7 @@ use lib.Ieee.{Float, nan}
 use borrow.Author.Tests.{lt-leb}
 use Rattle.integer.specs.Operand.{unsigned, operand}
 use Rattle.integer.specs.Encoding.{unsignedBytes, signedBytes}
-use Rattle.integer.proofs.Parts.{negated, times}
-use Rattle.integer.proofs.Order.{order}
-use Rattle.integer.proofs.Sizes.{size-parts, size-low, size-high}
+use Rattle.integer.proofs.Sizes.{size-low, size-high}
 use Rattle.integer.proofs.Operand.{operand-behind}
 use Rattle.integer.proofs.Encoding.{signed-back}
 use Rattle.integer.proofs.Tests.{not-outside}
@@ -29,7 +27,7 @@ use Rattle.import.specs.Entries.{number, imported}
 use Rattle.import.specs.Models.{numberIn, command, commandsFrom, Gives, Readable}
 use Rattle.import.proofs.Meaning.{number-small}
 use Rattle.import.proofs.Tested.{Ready, number-at}
-use Rattle.import.proofs.Output.{entryCommand, commands-append, commands-length}
+use Rattle.import.proofs.Output.{in-two-bytes, entryCommand, commands-append, commands-length}
 
 -- ---- One command
 
@@ -52,7 +50,8 @@ module _ (front behind : List ℕ) (i j : ℕ) (z : ℤ) (h : natAbs z ≤ 16384
   pair-given : (byte : ℕ) (entry : ℕ → ℕ → ℤ → Entry) → pairCommand entry (front ++ five byte) (length front) ≡ Give (entry i j z)
   unfolding pairCommand
   pair-given byte entry =
-      let back = signed-back 2 z (omega (arith, order, size-parts z, negated (pos 65536), times (pos 2) z)) (omega (arith, order, size-parts z, times (pos 2) z)) in
+      let r = in-two-bytes z h in
+      let back = signed-back 2 z (r .0) (r .1) in
       rw (lt-leb (length (front ++ five byte)) (length front + 4) (long byte), index byte 1 i refl, index byte 2 j refl, two byte, back) refl
 
   state-given : decoded (front ++ five 0x20) (length front) ≡ Give (State i j z)

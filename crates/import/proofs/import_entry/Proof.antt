@@ -20,7 +20,7 @@ use Rattle.import.proofs.Meaning.{nothing-left, is-number, not-finite-a
 use Rattle.import.proofs.import_entry.Statement.{statement}
 use Rattle.import.proofs.import_entry.Tie as tie
 
--- what the tests have found
+-- what the first test has found
 fitting : (s : tie.Start) → T (fits binary64 (s .args .entry))
 fitting s = passed (s .good .0 .1)
 
@@ -28,6 +28,14 @@ is-finite : (c : tie.Else1) → finite (c .before .args .entry) ≡ true
 unfolding ofBits ofFields odd
 is-finite c = finite-of (c .before .args .entry) (c .if1 .left)
 
+returns-3 : tie.Need-returns-3
+unfolding ofBits ofFields odd span climb size units neg
+returns-3 c =
+    let s = c .before .before .before in
+    let f = is-finite (c .before .before) in
+    large-answers (s .args .entry) (fitting s) f (too-low (s .args .entry) (passed f) (c .if3 .taken))
+
+-- and the two of the range
 in-range : (c : tie.Else3) → natAbs (number (c .before .before .before .args .entry)) ≤ 16384
 unfolding ofBits ofFields odd span climb size units neg
 in-range c = within (c .before .before .before .args .entry) (passed (is-finite (c .before .before))) (c .before .if2 .left) (c .if3 .left)
@@ -50,13 +58,6 @@ returns-2 c =
     let s = c .before .before in
     let f = is-finite (c .before) in
     large-answers (s .args .entry) (fitting s) f (too-high (s .args .entry) (passed f) (c .if2 .taken))
-
-returns-3 : tie.Need-returns-3
-unfolding ofBits ofFields odd span climb size units neg
-returns-3 c =
-    let s = c .before .before .before in
-    let f = is-finite (c .before .before) in
-    large-answers (s .args .entry) (fitting s) f (too-low (s .args .entry) (passed f) (c .if3 .taken))
 
 nearest-requires : tie.Need-nearest-requires
 unfolding ofBits ofFields odd span climb size units

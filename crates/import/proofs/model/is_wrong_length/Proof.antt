@@ -1,4 +1,5 @@
 -- `import::model::is_wrong_length` meets its contract.
+use mathlib.Core.Path.{refl}
 use native.Mathlib.Omega.{arith}
 use borrow.Author.Tests.{eq-eqb, ne-eqb}
 use Rattle.import.proofs.Tested.{square-small, product-small}
@@ -28,7 +29,7 @@ mul-result c =
     omega (arith, square-small (s .args .n) (s .pre .0), product-small (s .args .n) (s .args .m) (s .pre .0) (s .pre .1))
 
 returns-3 : tie.Need-returns-3
-returns-3 c = rw (eq-eqb _ _ (c .before .if1 .left), eq-eqb _ _ (c .if2 .left))
+returns-3 c = rw (eq-eqb _ _ (c .before .if1 .left), eq-eqb _ _ (c .if2 .left)) refl
 
 pub is-wrong-length-spec : {M : Type 1} → statement M
 is-wrong-length-spec = tie.close (tie.spec mul-states mul-inputs returns returns-2 add-result mul-result returns-3)

@@ -7,7 +7,7 @@ use std::process::{Command, ExitCode, Stdio};
 use crate::comparison::Comparison;
 use crate::guard::Beside;
 use crate::part::Part;
-use crate::{edges, imports, slip};
+use crate::{edges, given, imports, slip};
 
 /// Says where a long run is once in so many tapes.
 const SAY_ONE_IN: u64 = 10_000;
@@ -48,8 +48,9 @@ fn text(error: std::io::Error) -> String {
     error.to_string()
 }
 
-/// Compares the cases, entries and models of `count` seeds from `first_seed` on, every length and
-/// the slips, and prints what was tried. Fails where something differs or was never met.
+/// Compares the cases, tapes with drawn places, entries and models of `count` seeds from
+/// `first_seed` on, every length, places left out and the slips, and prints what was tried. Fails
+/// where something differs or was never met.
 pub fn compare_here(count: u64, first_seed: u64) -> Result<(), String> {
     let mut comparison = Comparison::new(Beside::Guards, Some(slip::program()?));
     for edge in Part::EDGES {
@@ -101,11 +102,13 @@ pub fn add(comparison: &mut Comparison, part: Part) {
         Part::Slips => edges::add_slips(comparison),
         Part::Tapes => edges::add_tapes(comparison),
         Part::Places => edges::add_places(comparison),
+        Part::Missing => given::add_missing(comparison),
         Part::Slices => edges::add_slices(comparison),
         Part::Equal => edges::add_equal(comparison),
         Part::Entries => imports::add_entries(comparison),
         Part::Models => imports::add_models(comparison),
         Part::Case(seed) => comparison.add_case(seed),
+        Part::GivenOf(seed) => comparison.add_given_of(seed),
         Part::EntriesOf(seed) => comparison.add_entries_of(seed),
         Part::ModelsOf(seed) => comparison.add_models_of(seed),
     }

@@ -33,6 +33,8 @@ pub const JUDGED: &str = "judged what a solve left";
 pub const TAPE_LENGTHS: &str = "tape lengths";
 /// Of [`ALSO`]: tapes with a command left out, given again or alone.
 pub const PLACES: &str = "places of the longest tape";
+/// Of [`ALSO`]: the largest sizes with required places left out.
+pub const MISSING: &str = "neighbouring places left out";
 /// Of [`ALSO`]: plans of every length.
 pub const PLAN_LENGTHS: &str = "plan lengths";
 /// Of [`ALSO`]: multipliers of every length.
@@ -76,6 +78,7 @@ impl Comparison {
             JUDGED,
             TAPE_LENGTHS,
             PLACES,
+            MISSING,
             PLAN_LENGTHS,
             MULTIPLIER_LENGTHS,
             EQUAL,
@@ -89,6 +92,7 @@ impl Comparison {
         let curves = [NO_CURVE, SOME_CURVES, ALL_CURVES];
         counts.expect(REFERENCES, answers(&curves, &refusals));
         counts.expect(STEPS, step_refusals());
+        counts.expect_given();
         counts.expect_imports();
         counts.expect(
             "slip",

@@ -7,6 +7,7 @@ mod cases;
 mod compare;
 mod comparison;
 mod edges;
+mod given;
 mod guard;
 mod imports;
 mod memory;
@@ -22,10 +23,11 @@ const HELP: &str = "\
 comparison: the planner against the second program
 
 comparison compare [COUNT [SEED]]
-    Makes COUNT (20000) cases from the seeds SEED (0), SEED + 1, .., and for each seed 50 entries
-    and 2 models in floats, by the second program's generators and runs them through the seven
-    calls of libplanner.a and through the second program; before them tapes, slices and models of
-    every length, entries beside every number and every half, and inputs of the program slip.
+    Makes COUNT (20000) cases from the seeds SEED (0), SEED + 1, .., and for each seed a tape that
+    gives a drawn set of places, 50 entries and 2 models in floats, by the second program's
+    generators and runs them through the seven calls of libplanner.a and through the second
+    program; before them tapes, slices and models of every length, tapes without each of the
+    required places, entries beside every number and every half, and inputs of the program slip.
     Every number of every answer and of everything lent is compared, refusals included, with guard
     cells around what is lent, floats bit by bit; so is the text of the program slip. Says every
     10000 tapes on standard error where it is. Prints how often each answer and each refusal came,
@@ -38,16 +40,18 @@ comparison compare-here COUNT SEED
     error says what comes next.
 
 comparison replay PART
-    Repeats one part of a comparison: the case of a seed, where PART is a number, and its entries
-    (entries-4711, say) and models (models-4711); inputs of the program slip (slips), tapes of
-    every length (tapes), the longest tape with a command left out, given again or alone (places),
-    plans and multipliers of every length (slices), floors at the ceiling (equal), entries beside
-    numbers, halves and powers of two (entries), models of every length and with a faulty entry at
-    every place (models).
+    Repeats one part of a comparison: the case of a seed, where PART is a number, and its tape that
+    gives a drawn set of places (given-4711, say), entries (entries-4711) and models (models-4711);
+    inputs of the program slip (slips), tapes of every length (tapes), the longest tape with a
+    command left out, given again or alone (places), tapes of the largest sizes with all curves
+    that lack one required place, two neighbours or more (missing), plans and multipliers of every
+    length (slices), floors at the ceiling (equal), entries beside numbers, halves and powers of
+    two (entries), models of every length and with a faulty entry at every place (models).
 
 comparison memory [COUNT [SEED]]
-    Compares COUNT (150) cases, and entries and models, with each thing that is lent in a block of
-    just its size. Under valgrind, which then sees any read or write outside what is lent:
+    Compares COUNT (150) cases, tapes with drawn places, and entries and models, with each thing
+    that is lent in a block of just its size. Under valgrind, which then sees any read or write
+    outside what is lent:
         valgrind -q --error-exitcode=1 target/release/comparison memory
 
 comparison benchmark [COUNT]

@@ -12,6 +12,8 @@ pub enum Part {
     Tapes,
     /// The longest tape with one of its commands left out, given again or alone.
     Places,
+    /// Tapes of the largest sizes with neighbouring places left out.
+    Missing,
     /// Plans and multipliers of every length.
     Slices,
     /// Multipliers whose floor is the ceiling.
@@ -22,6 +24,8 @@ pub enum Part {
     Models,
     /// The case of a seed.
     Case(u64),
+    /// The tape of a seed that gives a drawn set of places.
+    GivenOf(u64),
     /// The entries of a seed.
     EntriesOf(u64),
     /// The models of a seed.
@@ -30,10 +34,11 @@ pub enum Part {
 
 impl Part {
     /// All that have no seed.
-    pub const EDGES: [Part; 7] = [
+    pub const EDGES: [Part; 8] = [
         Part::Slips,
         Part::Tapes,
         Part::Places,
+        Part::Missing,
         Part::Slices,
         Part::Equal,
         Part::Entries,
@@ -41,9 +46,10 @@ impl Part {
     ];
 
     /// The parts of a seed.
-    pub fn of_seed(seed: u64) -> [Part; 3] {
+    pub fn of_seed(seed: u64) -> [Part; 4] {
         [
             Part::Case(seed),
+            Part::GivenOf(seed),
             Part::EntriesOf(seed),
             Part::ModelsOf(seed),
         ]
@@ -65,11 +71,13 @@ impl fmt::Display for Part {
             Part::Slips => f.write_str("slips"),
             Part::Tapes => f.write_str("tapes"),
             Part::Places => f.write_str("places"),
+            Part::Missing => f.write_str("missing"),
             Part::Slices => f.write_str("slices"),
             Part::Equal => f.write_str("equal"),
             Part::Entries => f.write_str("entries"),
             Part::Models => f.write_str("models"),
             Part::Case(seed) => write!(f, "{seed}"),
+            Part::GivenOf(seed) => write!(f, "given-{seed}"),
             Part::EntriesOf(seed) => write!(f, "entries-{seed}"),
             Part::ModelsOf(seed) => write!(f, "models-{seed}"),
         }
@@ -101,7 +109,16 @@ mod tests {
         for part in Part::EDGES.into_iter().chain(of_seeds.concat()) {
             assert_eq!(part.to_string().parse(), Ok(part));
         }
-        for word in ["case", "-1", "", "entries-", "slips-4", "models-4-5", "007"] {
+        for word in [
+            "case",
+            "-1",
+            "",
+            "given",
+            "entries-",
+            "slips-4",
+            "models-4-5",
+            "007",
+        ] {
             assert!(word.parse::<Part>().is_err(), "{word}");
         }
     }

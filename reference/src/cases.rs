@@ -5,6 +5,10 @@
 //! the 16 digits of its bits, in upper case and the first of them first: 3FF0000000000000 is 1.
 //! Those of `model` are A's entries and then B's.
 //!
+//! `missing` has 18 bytes of marks in the order of [`crate::marks`]: place 8j + b is given where
+//! bit b of byte j is 1, bit 0 being the lowest. `count` has 48 bytes: three 64-bit words of what is
+//! asked for, each low byte first, and three of what is given.
+//!
 //! ```text
 //! read HEX
 //! steps HEX
@@ -13,6 +17,8 @@
 //! solve HEX / plan numbers / multipliers
 //! entry HEX
 //! model HEX / n m a_len b_len out_len
+//! missing HEX / n m N
+//! count HEX
 //! quotient dividend divisor / ..
 //! limit number lo hi / ..
 //! size number / ..
@@ -25,6 +31,7 @@ use std::str::FromStr;
 
 use crate::calls::{judge_multipliers, judge_plan, read, solve, Shown, Solved};
 use crate::import::{import_entry, import_model, Entry};
+use crate::marks::{count_missing, Marks, Sizes};
 use crate::model::{floor_div, Column, Furnace, Whole};
 use crate::refusal::Refusal;
 use crate::tape::{signed, unsigned, MOST_COLUMNS, MOST_INPUTS, MOST_STATES, MOST_STEPS};
@@ -84,9 +91,12 @@ fn answer(line: &str) -> Result<String, String> {
         }
         ("entry", [entry]) => imported_entry(entry),
         ("model", [entries, lengths]) => imported_model(entries, lengths),
-        ("read" | "steps" | "judge" | "show" | "solve" | "entry" | "model", _) => {
-            Err(format!("`{call}` has another number of parts"))
-        }
+        ("missing", [marks, sizes]) => missing_places(marks, sizes),
+        ("count", [words]) => missing_bits(words),
+        (
+            "read" | "steps" | "judge" | "show" | "solve" | "entry" | "model" | "missing" | "count",
+            _,
+        ) => Err(format!("`{call}` has another number of parts")),
         _ => whole_numbers(call, &parts),
     }
 }
@@ -123,6 +133,65 @@ fn imported_model(entries: &str, lengths: &str) -> Result<String, String> {
         Err(refusal) => refused(refusal),
     };
     Ok(answer + &listed("out", out))
+}
+
+/// The output line of a count of required places without a mark.
+fn missing_places(marks: &str, sizes: &str) -> Result<String, String> {
+    let marks = given_marks(&bytes(marks)?)?;
+    let numbers: Vec<usize> = numbers(sizes)?;
+    let [states, inputs, horizon] = numbers[..] else {
+        return Err("`missing` has 3 numbers behind its marks".to_string());
+    };
+    let sizes = Sizes {
+        states,
+        inputs,
+        horizon,
+    };
+    if !sizes.in_range() {
+        return Err(format!("{states} {inputs} {horizon} are no sizes"));
+    }
+    Ok(listed("missing", [count_missing(sizes, &marks)]))
+}
+
+/// How many bytes hold a mark for each place.
+const MARK_BYTES: usize = 18;
+
+/// The places whose bit is 1.
+fn given_marks(bytes: &[u8]) -> Result<Marks, String> {
+    if bytes.len() != MARK_BYTES {
+        return Err(format!("`missing` has {MARK_BYTES} bytes of marks"));
+    }
+    let places = Sizes::MOST.places();
+    if (places.len()..8 * MARK_BYTES).any(|place| bit(bytes, place)) {
+        return Err("a mark behind the last place".to_string());
+    }
+    let places = places.into_iter().enumerate();
+    let given = places.filter(|(place, _)| bit(bytes, *place));
+    Ok(given.map(|(_, place)| place).collect())
+}
+
+/// How many bytes three words of 64 bits have.
+const WORD_BYTES: usize = 24;
+
+/// The output line of a count of bits that are asked for and not given.
+fn missing_bits(words: &str) -> Result<String, String> {
+    let bytes = bytes(words)?;
+    if bytes.len() != 2 * WORD_BYTES {
+        return Err("`count` has 6 words of 64 bits".to_string());
+    }
+    let (asked, given) = bytes.split_at(WORD_BYTES);
+    let mut count = 0;
+    for place in 0..8 * WORD_BYTES {
+        if bit(asked, place) && !bit(given, place) {
+            count += 1;
+        }
+    }
+    Ok(listed("count", [count]))
+}
+
+/// Is the bit at this place 1? The lowest bit of the first byte is place 0.
+fn bit(bytes: &[u8], place: usize) -> bool {
+    bytes[place / 8] >> (place % 8) & 1 == 1
 }
 
 /// The output line of a case of whole numbers: the result of each part.

@@ -1,7 +1,9 @@
 //! Counts of what the generated cases lead to, by call.
 
+mod given;
 mod import;
 
+pub use given::GIVEN;
 pub use import::IMPORTS;
 
 use std::collections::BTreeMap;
@@ -319,10 +321,12 @@ fn up_to(most: usize) -> Vec<String> {
 pub fn count_cases(count: u64, first_seed: u64) -> Counts {
     let mut counts = Counts::of_calls();
     counts.expect(STEPS, step_refusals());
+    counts.expect_given();
     counts.expect_imports();
     for place in 0..count {
         let seed = first_seed.wrapping_add(place);
         counts.add_case(&case(seed));
+        counts.add_given_of(seed);
         counts.add_imports(seed);
     }
     counts

@@ -1,15 +1,15 @@
 //! A second program for the sinter furnace planner.
 //!
 //! It is written from the papers alone, so that the planner's answers can be compared with it:
-//! document 01 ("Sinter furnace planner: tape, plan, gap") and requests 1 and 2 of document 02
-//! ("Requests for later changes"), a reference for each step and models in floats. It puts
-//! plainness before speed: the sums are written as the papers write them, and all whole numbers
-//! have 128 bits.
+//! document 01 ("Sinter furnace planner: tape, plan, gap") and requests 1 to 3 of document 02
+//! ("Requests for later changes"), a reference for each step, models in floats and given marks. It
+//! puts plainness before speed: the sums are written as the papers write them, and all whole
+//! numbers have 128 bits.
 //!
 //! The modules follow document 01's sections: [`model`], [`tape`], [`floor`], [`rounds`],
-//! [`calls`], [`refusal`] and [`mod@slip`]; [`import`] is request 2. [`cases`] answers a text of test
-//! cases, [`generate`] makes tapes, plans, multipliers, entries and models from a seed, and
-//! [`count`] counts what they lead to, by rounds, sizes and [`shapes`].
+//! [`calls`], [`refusal`] and [`mod@slip`]; [`import`] is request 2, [`marks`] request 3. [`cases`]
+//! answers a text of test cases, [`generate`] makes tapes, plans, multipliers, entries and models
+//! from a seed, and [`count`] counts what they lead to, by rounds, sizes and [`shapes`].
 #![forbid(unsafe_code)]
 #![deny(missing_docs)]
 // The loops name the paper's indexes k, i and j.
@@ -21,6 +21,7 @@ pub mod count;
 pub mod floor;
 pub mod generate;
 pub mod import;
+pub mod marks;
 pub mod model;
 pub mod refusal;
 pub mod rounds;

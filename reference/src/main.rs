@@ -26,9 +26,15 @@ reference expect < CASES
         solve HEX / plan numbers / multipliers
         entry HEX
         model HEX / n m a_len b_len out_len
+        missing HEX / n m N
+        count HEX
     A float is the 16 hex digits of its bits, in upper case, the first of them first:
     3FF0000000000000 is 1. `model` has the a_len entries of A and then the b_len entries of B;
-    its lent out has out_len bytes, all of them 7.
+    its lent out has out_len bytes, all of them 7. `missing` has 18 bytes of marks: the place
+    8j + b is given where bit b of byte j, the lowest being 0, is 1; the places are columns 0 to
+    9, start values 0 to 5, the rounds command, then steps 0 to 11 of column 0, of column 1 and
+    so on, 137 in all. `count` has 48 bytes: three words of 64 bits of what is asked for, each
+    low byte first, then three of what is given.
     Each case gives one line:
         refused NUMBER CARRIED    CARRIED is an offset, R, an entry's count, or - for nothing
         read ..                   118 numbers: n m N, A by rows of 6, B by rows of 4, w, lo,
@@ -43,6 +49,8 @@ reference expect < CASES
         whole NUMBER              of entry
         near NUMBER BITS          of entry, with the leftover's bits as an unsigned number
         written                   of model
+        missing COUNT             required places of these sizes without a mark
+        count COUNT               bits that are asked for and not given
     After the line of a solve, refused or not, come two more lines, `plan ..` and
     `multipliers ..`, with what the slices hold at exit; after that of a model, refused or
     not, a line `out ..` with the bytes that out holds at exit.
@@ -56,12 +64,12 @@ reference expect < CASES
                                           unsigned and as signed
 
 reference generate [COUNT [SEED]]
-    Makes COUNT (10000) cases from the seeds SEED (0), SEED + 1, .., and for each seed 50
-    entries and 2 models in floats, runs them through all calls and writes how often each answer
-    and each refusal came, how often 'proved' and 'impossible' came by rounds, sizes, rare shapes
-    and curves, how often a command 31 brought a refusal about, and answers to entries and models
-    by kinds, sizes and rare shapes. Fails if a count is 0, which is to be expected of a small
-    COUNT.
+    Makes COUNT (10000) cases from the seeds SEED (0), SEED + 1, .., and for each seed a tape that
+    gives a drawn set of places, 50 entries and 2 models in floats, runs them through the calls and
+    writes how often each answer and each refusal came, how often 'proved' and 'impossible' came by
+    rounds, sizes, rare shapes and curves, how often a command 31 brought a refusal about, how many
+    required places were missing, and answers to entries and models by kinds, sizes and rare
+    shapes. Fails if a count is 0, which is to be expected of a small COUNT.
 ";
 
 fn main() -> ExitCode {

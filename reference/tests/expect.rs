@@ -122,6 +122,47 @@ fn imports() {
 }
 
 #[test]
+fn given_marks() {
+    let none = "00".repeat(18);
+    // 136 bits, and the one of place 136.
+    let all = format!("{}01", "FF".repeat(17));
+    // Place 16, the rounds command, is bit 0 of byte 2; place 64 is bit 0 of byte 8.
+    let rounds = format!("{}01{}", "00".repeat(2), "00".repeat(15));
+    let step = format!("{}01{}", "00".repeat(8), "00".repeat(9));
+    let (zero, ones) = ("00".repeat(24), "FF".repeat(24));
+    let cases = format!(
+        "missing {none} / 6 4 12\n\
+         missing {all} / 6 4 12\n\
+         missing {rounds}/6 4 12\n\
+         missing {rounds} / 1 1 1\n\
+         missing {step} / 6 4 12\n\
+         missing {step} / 6 4 11\n\
+         missing {step} / 1 2 12\n\
+         count {zero} {zero}\n\
+         count {ones} {zero}\n\
+         count {zero}{ones}\n\
+         count 00 00 00 00 00 00 00 80 {} 03 {} 01 {}\n",
+        "00".repeat(8),
+        "00".repeat(7),
+        "00".repeat(23),
+    );
+    // 10 columns, 6 start values and the rounds; 2, 1 and 1. Place 64 is step 11 of column 3. The
+    // last: bits 63, 128 and 129, of which none is given; bit 0 is given and not asked for.
+    let expected = "missing 17\n\
+        missing 0\n\
+        missing 16\n\
+        missing 3\n\
+        missing 28\n\
+        missing 17\n\
+        missing 5\n\
+        count 0\n\
+        count 192\n\
+        count 0\n\
+        count 3\n";
+    assert_eq!(expect(&cases).unwrap(), expected);
+}
+
+#[test]
 fn whole_numbers() {
     let cases = "quotient -1 2 / 1 2 / -9223372036854775808 9223372036854775807\n\
         limit -4 -3 9 / 10 -3 9 / 5 -3 9\n\
@@ -166,7 +207,29 @@ fn texts_that_are_no_cases() {
         "model 3FF00000000000 / 1 1 1 0 10",
         "operands 01 02 03",
         "operands 01 02 03 04 / 05 06 07 08",
+        "missing",
+        "missing 000000000000000000000000000000000000",
+        "missing 0000000000000000000000000000000000 / 6 4 12",
+        "missing 00000000000000000000000000000000000000 / 6 4 12",
+        "missing 000000000000000000000000000000000002 / 6 4 12",
+        "missing 000000000000000000000000000000000080 / 6 4 12",
+        "missing 000000000000000000000000000000000000 / 6 4",
+        "missing 000000000000000000000000000000000000 / 6 4 12 1",
+        "missing 000000000000000000000000000000000000 / 0 4 12",
+        "missing 000000000000000000000000000000000000 / 7 4 12",
+        "missing 000000000000000000000000000000000000 / 6 0 12",
+        "missing 000000000000000000000000000000000000 / 6 5 12",
+        "missing 000000000000000000000000000000000000 / 6 4 0",
+        "missing 000000000000000000000000000000000000 / 6 4 13",
+        "missing 000000000000000000000000000000000000 / 6 4 -1",
+        "missing 000000000000000000000000000000000000 / 6 4 12 / 1",
+        "count",
+        "count 00",
+        "count 00 / 00",
     ];
+    let words = |bytes: usize| format!("count {}", "00".repeat(bytes));
+    let words = [47, 49, 24].map(words);
+    let wrong = wrong.into_iter().chain(words.iter().map(String::as_str));
     for line in wrong {
         let error = expect(&format!("read 10\n{line}\n")).unwrap_err();
         assert!(error.starts_with("line 2: "), "{line}: {error}");

@@ -1,13 +1,14 @@
 // Cases of the test programs: a line each, `read HEX`, `steps HEX`, `judge HEX / numbers / numbers`,
-// `show HEX / numbers`, `solve HEX / numbers / numbers`, `entry HEX` or `model HEX / numbers`, as the
-// second program takes them. What follows a # is passed over.
+// `show HEX / numbers`, `solve HEX / numbers / numbers`, `entry HEX`, `model HEX / numbers`, `count HEX`
+// or `missing HEX / numbers`, as the second program takes them. What follows a # is passed over.
+use integer::number::size;
 use tape::refusal::Carried;
 use tape::refusal::Refusal;
 use tape::refusal::carries;
 use tape::refusal::number;
 
-// A case as far as it has been read, character by character. The kind is a letter of the line's
-// word, 0 before it. Digits of a tape, or of floats, are 0 to 9 and A to F; numbers are decimal.
+// A case as far as it has been read, character by character. The kind is the last such letter of the
+// line's word, 0 before it. Digits of a tape, or of floats, are 0 to 9 and A to F; numbers are decimal.
 pub struct Case {
     pub kind: u8,
     pub comment: bool,
@@ -53,7 +54,7 @@ impl Case {
                 case.comment = true;
                 case
             }
-            b'r' | b'p' | b'j' | b'h' | b'v' | b'y' | b'm' => {
+            b'r' | b'p' | b'j' | b'h' | b'v' | b'y' | b'm' | b'c' | b'i' => {
                 case.kind = c;
                 case
             }
@@ -152,6 +153,18 @@ fn narrow(x: i64) -> i32 {
         return 0;
     }
     x as i32
+}
+
+// A number of a list as a size; 0 past the end.
+pub fn size_at(list: &[i32], at: usize) -> usize {
+    if list.len() <= at {
+        return 0;
+    }
+    wide(list[at])
+}
+
+fn wide(x: i32) -> usize {
+    size(x as i64) as usize
 }
 
 // Writes a refusal: its number, and what it carries, a place or R, or `-`.

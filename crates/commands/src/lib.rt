@@ -1,7 +1,6 @@
 // The commands of a tape: their bytes, their operands and the tests of document 01's table.
 pub mod mark;
 pub mod range;
-pub mod required;
 
 ghost use Prim.Native.Nat.{_+_, _<_};
 ghost use mathlib.Core.Path.{_≡_};

@@ -1,12 +1,12 @@
 // Imports the entries and models on standard input and writes what they are imported as.
 use cases::Case;
 use cases::refused;
+use cases::size_at;
 use import::Entry;
 use import::import_entry;
 use import::model::Model;
 use import::model::import_model;
 use integer::bytes::u8_at;
-use integer::number::size;
 
 fn main() {
     let mut text = io::large_buffer();
@@ -118,17 +118,6 @@ fn list(bytes: &[u8]) {
         print::unsigned(u8_at(bytes, i) as u64);
         i += 1;
     }
-}
-
-fn size_at(sizes: &[i32], at: usize) -> usize {
-    if sizes.len() <= at {
-        return 0;
-    }
-    wide(sizes[at])
-}
-
-fn wide(x: i32) -> usize {
-    size(x as i64) as usize
 }
 
 // The floats behind the first so many, 8 bytes each.

@@ -1,15 +1,18 @@
--- Laws about tests: both branches of one, chains of `||`, numbers in and outside a range, and any of several.
-use Prim.Native.Nat.{ℕ, zero, suc, _+_, _<_, _≤_}
-use mathlib.Core.Path.{_≡_, refl, _∙_, ap₂}
-use mathlib.Core.Bool.{Bool, true, false, cond, _||_, true≢false, or-true}
+-- Laws about tests: both branches of one, chains of `||`, numbers in and outside a range, any of several, and how many of them.
+use Prim.Native.Nat.{ℕ, zero, suc, _+_, _-_, _<_, _≤_}
+use mathlib.Core.Path.{_≡_, refl, sym, _∙_, ap, ap₂}
+use mathlib.Core.Bool.{Bool, true, false, cond, _&&_, _||_, true≢false, or-true, or-false}
 use mathlib.Core.Logic.{_⊎_, ⊎-elim}
 use mathlib.Core.List.{List, [], _∷_}
+use native.Mathlib.Nat.{add-zero, add-suc, add-assoc}
 use native.Mathlib.Numerals.{add-one}
 use native.Mathlib.Omega.{arith}
+use lib.Dec.{ltb}
 use lib.IntN.{ℤ, pos, negℤ, natAbs}
 use lib.Signed.{ltZ}
+use borrow.Author.Tests.{lt-ltb, le-ltb}
 use Rattle.integer.specs.Order.{_≼_}
-use Rattle.integer.specs.Tests.{outside, any}
+use Rattle.integer.specs.Tests.{outside, any, count}
 use Rattle.integer.proofs.Order.{order}
 use Rattle.integer.proofs.Sizes.{size-by, size-parts}
 use Rattle.integer.proofs.Places.{lt-or-le}
@@ -20,6 +23,14 @@ use Rattle.integer.proofs.Places.{lt-or-le}
 pub by-test : {A : Type 0} (P : A → Type 0) (test : Bool) {x y : A} → (test ≡ true → P x) → (test ≡ false → P y) → P (cond test x y)
 by-test P true f g = f refl
 by-test P false f g = g refl
+
+-- tests that say the same
+pub same-test : (a b c d : ℕ) → (a < b → c < d) → (c < d → a < b) → ltb a b ≡ ltb c d
+same-test a b c d f g =
+    ⊎-elim
+    (λ l. lt-ltb a b l ∙ sym (lt-ltb c d (f l)))
+    (λ l. le-ltb a b l ∙ sym (le-ltb c d (⊎-elim (λ h. let z : ⊥ = omega (arith, g h) in absurd z) (λ h. h) (lt-or-le c d))))
+    (lt-or-le a b)
 
 -- a first test and more, joined by `||`
 abbrev pub joined : Bool → List Bool → Bool
@@ -102,3 +113,61 @@ pub any-cong : (n : ℕ) (f g : ℕ → Bool) → ((p : ℕ) → p < n → f p �
 unfolding any
 any-cong zero f g h = refl
 any-cong (suc n) f g h = ap₂ _||_ (any-cong n f g (λ p l. h p (omega arith))) (h n (omega arith))
+
+-- ---- How many of several
+
+pub count-cong : (n : ℕ) (f g : ℕ → Bool) → ((p : ℕ) → p < n → f p ≡ g p) → count n f ≡ count n g
+unfolding count
+count-cong zero f g h = refl
+count-cong (suc n) f g h = ap₂ (λ (c : ℕ) (b : Bool). c + cond b 1 0) (count-cong n f g (λ p l. h p (omega arith))) (h n (omega arith))
+
+pub count-none : (n : ℕ) (f : ℕ → Bool) → ((p : ℕ) → p < n → f p ≡ false) → count n f ≡ 0
+unfolding count
+count-none zero f h = refl
+count-none (suc n) f h = rw (count-none n f (λ p l. h p (omega arith)), h n (omega arith))
+
+pub count-le : (n : ℕ) (f : ℕ → Bool) → count n f ≤ n
+unfolding count
+count-le zero f = omega arith
+count-le (suc n) f = go (f n) (count-le n f)
+  where
+    go : (b : Bool) → count n f ≤ n → count n f + cond b 1 0 ≤ suc n
+    go true h = omega arith
+    go false h = omega arith
+
+-- those below a, and the b behind them
+pub count-parts : (a b : ℕ) (f : ℕ → Bool) → count (a + b) f ≡ count a f + count b (λ p. f (a + p))
+unfolding count
+count-parts a zero f = rw (add-zero a) (sym (add-zero (count a f)))
+count-parts a (suc b) f =
+    rw (add-suc a b)
+    (ap (λ (c : ℕ). c + cond (f (a + b)) 1 0) (count-parts a b f) ∙ add-assoc (count a f) (count b (λ p. f (a + p))) (cond (f (a + b)) 1 0))
+
+-- those of w that are among the first n
+pub count-first : (w n : ℕ) (f : ℕ → Bool) → n ≤ w → count w (λ p. ltb p n && f p) ≡ count n f
+count-first w n f h =
+    let first : ℕ → Bool = λ p. ltb p n && f p in
+    let e : w ≡ n + (w - n) = omega arith in
+    ap (λ (k : ℕ). count k first) e ∙ count-parts n (w - n) first
+    ∙ ap₂ _+_
+    (count-cong n first f (λ p l. ap (λ (b : Bool). b && f p) (lt-ltb p n l)))
+    (count-none (w - n) (λ p. first (n + p)) (λ p l. ap (λ (b : Bool). b && f (n + p)) (le-ltb (n + p) n (omega arith))))
+    ∙ add-zero (count n f)
+
+-- those of a stretch outside of which there are none
+pub count-stretch : (a w n : ℕ) (f : ℕ → Bool) → n ≤ a + w → ((p : ℕ) → p < a → f p ≡ false) → ((p : ℕ) → n ≤ p → f p ≡ false)
+    → count w (λ p. f (a + p)) ≡ count n f
+count-stretch a w n f h before behind =
+    let e : a + w ≡ n + (a + w - n) = omega arith in
+    let none-behind = count-none (a + w - n) (λ p. f (n + p)) (λ p l. behind (n + p) (omega arith)) in
+    omega (arith, count-none a f before, count-parts a w f, ap (λ (k : ℕ). count k f) e, count-parts n (a + w - n) f, none-behind)
+
+-- any of them has f exactly when their count is above 0
+pub any-count : (n : ℕ) (f : ℕ → Bool) → any n f ≡ ltb 0 (count n f)
+unfolding any count
+any-count zero f = refl
+any-count (suc n) f = go (f n) (any-count n f)
+  where
+    go : (b : Bool) → any n f ≡ ltb 0 (count n f) → any n f || b ≡ ltb 0 (count n f + cond b 1 0)
+    go true e = or-true (any n f) ∙ sym (lt-ltb 0 (count n f + 1) (omega arith))
+    go false e = or-false (any n f) ∙ e ∙ ap (ltb 0) (sym (add-zero (count n f)))

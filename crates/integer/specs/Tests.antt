@@ -1,6 +1,6 @@
--- Tests: whether a number lies outside a range, and whether one of several does.
-use Prim.Native.Nat.{ℕ, zero, suc}
-use mathlib.Core.Bool.{Bool, false, _||_}
+-- Tests: whether a number lies outside a range, whether one of several does, and how many do.
+use Prim.Native.Nat.{ℕ, zero, suc, _+_}
+use mathlib.Core.Bool.{Bool, false, cond, _||_}
 use lib.IntN.{ℤ}
 use lib.Signed.{ltZ}
 
@@ -12,3 +12,8 @@ outside lo hi v = ltZ v lo || ltZ hi v
 unfoldable pub any : ℕ → (ℕ → Bool) → Bool
 any zero f = false
 any (suc count) f = any count f || f count
+
+-- how many numbers below n have f
+unfoldable pub count : ℕ → (ℕ → Bool) → ℕ
+count zero f = 0
+count (suc n) f = count n f + cond (f n) 1 0

@@ -22,7 +22,7 @@ use commands::is_wrong;
 use commands::is_wrong_size;
 use commands::mark::PLACE_COUNT;
 use commands::place_of;
-use commands::required::is_required;
+use marks::count_missing;
 
 pub enum Verdict {
     Going,
@@ -169,14 +169,7 @@ fn is_absent(given: &[bool; PLACE_COUNT], n: usize, m: usize, horizon: usize) ->
     requires { ⌜ SmallSizes n m horizon ⌝ }
     ensures { λ r. ⌜ r ≡ absent n m horizon (now (given .entry)) ⌝ }
 {
-    let mut place = 0;
-    while place < PLACE_COUNT {
-        if is_required(place, n, m, horizon, given) && !given[place] {
-            return true;
-        }
-        place += 1;
-    }
-    false
+    0 < count_missing(n, m, horizon, given)
 }
 
 fn obey_end(s: &[u8], q: Reader) -> Reader

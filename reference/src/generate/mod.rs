@@ -2,13 +2,15 @@
 //! every machine.
 //!
 //! [`tape`] gives a tape; [`case`] gives the same tape with slices to lend to the calls.
-//! [`entries()`] and [`models()`] give what is to be imported.
+//! [`given()`] gives a tape that lacks required places or does not. [`entries()`] and [`models()`]
+//! give what is to be imported.
 
 pub mod commands;
 pub mod curves;
 pub mod damage;
 pub mod entries;
 pub mod furnaces;
+pub mod given;
 pub mod late;
 pub mod lent;
 pub mod models;
@@ -16,6 +18,7 @@ pub mod random;
 pub mod rare;
 
 pub use entries::{EntryKind, GeneratedEntry};
+pub use given::GivenTape;
 pub use lent::Lent;
 pub use models::Model;
 pub use random::Random;
@@ -103,6 +106,11 @@ pub fn case(seed: u64) -> Case {
         judged,
         solved,
     }
+}
+
+/// The tape of a seed that gives a drawn set of places.
+pub fn given(seed: u64) -> GivenTape {
+    given::any(&mut Random::new(seed))
 }
 
 /// How many entries a seed has.

@@ -1,0 +1,2 @@
+-- Laws about the required places.
+pub mod Places

@@ -1,0 +1,2 @@
+-- Laws about words.
+pub mod Bits

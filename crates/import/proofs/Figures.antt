@@ -1,19 +1,16 @@
--- Figures of an import, worked out by hand: a float by its bits, and what it is imported as; and tape F's model as commands.
+-- Figures of an import, worked out by hand: a float by its bits, and what it is imported as.
 use Prim.Native.Nat.{ℕ}
 use mathlib.Core.Path.{_≡_, refl}
 use mathlib.Core.List.{List, [], _∷_, map}
 use lib.Count.{trailingZeros}
 use lib.IntN.{pos, negsuc}
 use lib.Ieee.{Float, binary64, ofBits, ofFields, odd, span, climb, size, units, round}
-use Rattle.integer.specs.Encoding.{unsignedBytes, complement}
 use Rattle.integer.specs.Quotient.{_÷_}
 use Rattle.import.specs.Entries.{number, rest, imported}
-use Rattle.import.specs.Models.{command, commandsFrom, modelLeft}
 use Rattle.import.specs.declared.Entry.{Entry}
 use Rattle.import.specs.declared.Entry.the-variants.{Whole, Near, NotFinite, TooLarge}
-use Rattle.import.specs.declared.model.Model.the-variants.{Written}
 
-abbrev double : ℕ → Float
+abbrev pub double : ℕ → Float
 double bits = ofBits binary64 bits
 
 abbrev minus-half : Float
@@ -50,9 +47,3 @@ table =
 pub figures : map (λ (r : ℕ × Entry). imported (double (r .0))) table ≡ map (λ (r : ℕ × Entry). r .1) table
 unfolding imported number rest ofBits ofFields odd span climb size units round _÷_ trailingZeros
 figures = refl
-
--- A = 1 and B = 1/2: the commands at offsets 4 to 13 of tape F
-pub model : modelLeft Written 1 1 (double 0x3FF0000000000000 ∷ []) (double 0x3FE0000000000000 ∷ []) []
-    ≡ 0x20 ∷ 0x00 ∷ 0x00 ∷ 0x00 ∷ 0x10 ∷ 0x21 ∷ 0x00 ∷ 0x00 ∷ 0x00 ∷ 0x08 ∷ []
-unfolding commandsFrom command unsignedBytes complement imported number rest ofBits ofFields odd span climb size units round _÷_ trailingZeros
-model = refl

@@ -2,7 +2,4 @@
 pub mod Bounds
 pub mod Product
 pub mod Meaning
-pub mod Tested
-pub mod Output
-pub mod ReadBack
 pub mod Figures

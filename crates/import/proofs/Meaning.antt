@@ -1,7 +1,7 @@
--- What `imported` says of an entry, over whole numbers, and the number that it gives.
+-- What `imported` says of an entry, over whole numbers.
 use Prim.Native.Nat.{ℕ, _<_, _≤_}
-use mathlib.Core.Path.{_≡_, refl, sym, ap, ap₂, _∙_, subst}
-use mathlib.Core.Bool.{Bool, true, false, true≢false}
+use mathlib.Core.Path.{_≡_, sym, ap, ap₂, _∙_, subst}
+use mathlib.Core.Bool.{true, false, true≢false}
 use native.Mathlib.Omega.{arith}
 use lib.Dec.{T, eqb, ltb}
 use lib.IntN.{ℤ, pos, negℤ, natAbs, _-ℤ_, _*ℤ_}
@@ -14,8 +14,6 @@ use Rattle.integer.proofs.Ring.{ring, K, ⊝, _⊗_, _≐_}
 use Rattle.integer.proofs.Order.{order, le→, lt→, eq→, mul-le, mul-lt, mul-cancel-le, mul-cancel-lt}
 use Rattle.integer.proofs.Sizes.{size-parts}
 use Rattle.integer.proofs.Tests.{by-test}
-use Rattle.tape.specs.declared.refusal.Refusal.{Refusal}
-use Rattle.tape.specs.declared.refusal.Refusal.the-variants as refusal
 use Rattle.float.specs.Value.{finite, Finite, numerator, denominator, Equals, floatOf}
 use Rattle.float.specs.Nearest.{Nearest}
 use Rattle.float.proofs.Values.{denominator-pos, from-one}
@@ -23,9 +21,6 @@ use Rattle.float.proofs.Rounded.{nearest-from, nearest-below, nearest-by, neare
 use Rattle.import.specs.Entries.{scaled, number, rest, imported, Rounds, Is, UnderHalf, Left, Exact}
 use Rattle.import.specs.declared.Entry.{Entry}
 use Rattle.import.specs.declared.Entry.the-variants.{Whole, Near, NotFinite, TooLarge}
-use Rattle.import.specs.Models.{numberIn, verdict}
-use Rattle.import.specs.declared.model.Model.{Model}
-use Rattle.import.specs.declared.model.Model.the-variants.{Written, Refused}
 use Rattle.import.proofs.Bounds.{is-nearest}
 use Rattle.import.proofs.Product.{leftover-is, leftover-value}
 
@@ -91,7 +86,7 @@ module _ (a : Float) (f : Finite a) where
         record { broken = broken; exactly = v; range = under-half (scaled a) (denominator a) (number a) _ (denominator-pos a) (is-nearest a f) v }
 
 -- P of what `imported` gives, from P of each of its cases and what the tests say there
-by-case : (P : Entry → Type 0) (a : Float) → (finite a ≡ false → P NotFinite) → (Finite a → 16384 < natAbs (number a) → P TooLarge)
+pub by-case : (P : Entry → Type 0) (a : Float) → (finite a ≡ false → P NotFinite) → (Finite a → 16384 < natAbs (number a) → P TooLarge)
     → (Finite a → natAbs (number a) ≤ 16384 → natAbs (rest a) ≡ 0 → P (Whole (number a)))
     → (Finite a → natAbs (number a) ≤ 16384 → (natAbs (rest a) ≡ 0 → ⊥) → P (Near (number a) (floatOf (rest a) (denominator a)))) → P (imported a)
 unfolding imported
@@ -144,21 +139,3 @@ module _ (a : Float) (g : T (fits binary64 a)) where
 
       pub near-answers : (natAbs (rest a) ≡ 0 → ⊥) → {k : ℤ} {leftover : Float} → k ≡ number a → leftover ≡ floatOf (rest a) (denominator a) → Answers (Near k leftover)
       near-answers n {k} {leftover} e x = answers (Near k leftover) (ap₂ Near e x ∙ near-imported n)
-
--- ---- The number of an imported entry
-
-is-written : Model → Bool
-is-written Written = true
-is-written (Refused why) = false
-
-pub not-written : (why : Refusal) → Refused why ≡ Written → ⊥
-unfolding is-written
-not-written why e = true≢false (sym (ap is-written e))
-
-pub number-small : (a : Float) → natAbs (numberIn (imported a)) ≤ 16384
-number-small a = by-case (λ r. natAbs (numberIn r) ≤ 16384) a (λ e. omega arith) (λ f s. omega arith) (λ f s z. s) (λ f s z. s)
-
-pub number-in : (count : ℕ) (a : Float) → verdict count (imported a) ≡ Written → numberIn (imported a) ≡ number a
-number-in count a =
-    by-case (λ r. verdict count r ≡ Written → numberIn r ≡ number a) a
-    (λ e w. absurd (not-written (refusal.NotFinite count) w)) (λ f s w. absurd (not-written (refusal.TooLarge count) w)) (λ f s z w. refl) (λ f s z w. refl)

@@ -1,6 +1,5 @@
-// Models straight from the identification tool: 64-bit floats as whole numbers of 4,096ths.
-pub mod model;
-
+// Entries of A and B straight from the identification tool: 64-bit floats as whole numbers of
+// 4,096ths.
 ghost use mathlib.Core.Path.{_≡_};
 ghost use Rattle.import.specs.Entries.{imported, Exact};
 use float::nearest;

@@ -4,9 +4,9 @@ use cases::refused;
 use cases::size_at;
 use import::Entry;
 use import::import_entry;
-use import::model::Model;
-use import::model::import_model;
 use integer::bytes::u8_at;
+use models::Model;
+use models::import_model;
 
 fn main() {
     let mut text = io::large_buffer();

@@ -14,7 +14,6 @@ use Rattle.tape.specs.declared.Answer.{Answer}
 use Rattle.tape.specs.declared.Answer.the-variants as answer
 use Rattle.tape.specs.declared.Tape.{Tape}
 use Rattle.tape.specs.declared.refusal.Refusal.{Refusal}
-use Rattle.tape.specs.declared.refusal.Refusal.the-variants.{Cut, Unknown, Misplaced, NoSuchPlace, OutOfRange, Twice, Absent, Overrun, Length, OffModel, OverLimit, Multiplier, Wide, NotShown, Open, ArgumentOutOfRange, NotFinite, TooLarge}
 use Rattle.tape.specs.Reading.{reading}
 use Rattle.tape.specs.Refusals.{row, figure}
 use Rattle.tape.proofs.Facts.{legal}
@@ -44,27 +43,6 @@ use Rattle.solver.specs.Solving.{solvingOn, endingAfterRead, solving, answerOf}
 
 abbrev pub Small : Refusal → Type 0
 Small why = figure (row why .carries) ≤ 10000
-
--- a refusal's number
-pub number-range : (why : Refusal) → (1 ≤ row why .number) × (row why .number ≤ 17)
-number-range (Cut at) = omega arith
-number-range (Unknown at) = omega arith
-number-range (Misplaced at) = omega arith
-number-range (NoSuchPlace at) = omega arith
-number-range (OutOfRange at) = omega arith
-number-range (Twice at) = omega arith
-number-range (Absent at) = omega arith
-number-range (Overrun at) = omega arith
-number-range Length = omega arith
-number-range OffModel = omega arith
-number-range OverLimit = omega arith
-number-range Multiplier = omega arith
-number-range Wide = omega arith
-number-range NotShown = omega arith
-number-range (Open R) = omega arith
-number-range ArgumentOutOfRange = omega arith
-number-range (NotFinite count) = omega arith
-number-range (TooLarge count) = omega arith
 
 -- ---- Reading
 

@@ -11,11 +11,11 @@ use Rattle.tape.specs.declared.refusal.Refusal.{Refusal}
 use Rattle.tape.specs.Refusals.{row, figure}
 use Rattle.import.specs.declared.Entry.{Entry}
 use Rattle.import.specs.declared.Entry.the-variants.{Whole, Near, NotFinite, TooLarge}
-use Rattle.import.specs.declared.model.Model.{Model}
-use Rattle.import.specs.declared.model.Model.the-variants as model
+use Rattle.models.specs.declared.Model.{Model}
+use Rattle.models.specs.declared.Model.the-variants as model
 use Rattle.import.specs.Entries.{imported, refusalNumber, Exact}
-use Rattle.import.specs.Models.{modelAnswer, modelLeft, ReadBack}
-use Rattle.import.proofs.Tested.{answer-counted}
+use Rattle.models.specs.Models.{modelAnswer, modelLeft, ReadBack}
+use Rattle.models.proofs.Tested.{answer-counted}
 use Rattle.planner.specs.Imports.{entryLeft, leftoverLeft, ExactBy, modelCode, ReadBackBy}
 use Rattle.planner.proofs.Figures.{Small}
 use Rattle.planner.proofs.Seen.{refused}

@@ -1,5 +1,4 @@
 -- What the functions' proofs cite.
 pub mod Figures
 pub mod Seen
-pub mod Filled
 pub mod Imported

@@ -21,9 +21,10 @@ use Rattle.solver.specs.declared.Solved.{Solved}
 use Rattle.solver.specs.declared.Solved.the-variants as solved
 use Rattle.solver.specs.Demand.{Upheld, JudgedAgain, RoundsWithin}
 use Rattle.solver.specs.Solving.{solving, firstDuties, answerOf, planLeft, multipliersLeft}
-use Rattle.planner.specs.Calls.{codeOf, judgedCode, judgedLeft, shownCode, solvedCode, solvedLeft}
+use Rattle.numbers.specs.Numbers.{codeOf}
+use Rattle.numbers.proofs.Codes.{number-range}
+use Rattle.planner.specs.Calls.{judgedCode, judgedLeft, shownCode, solvedCode, solvedLeft}
 use Rattle.planner.specs.Demand.{BackedBy, FoundedBy, Says, firstIn, UpheldBy, AgainBy, RoundsBy}
-use Rattle.planner.proofs.Figures.{number-range}
 
 -- a refusal's code is not 0
 pub refused : (why : Refusal) → codeOf why ≡ 0 → ⊥

@@ -1,13 +1,11 @@
 -- The exported calls: the number that each returns, and what it leaves in `out`.
-use Prim.Native.Nat.{ℕ, _+_, _*_}
-use mathlib.Core.Bool.{Bool, cond}
-use mathlib.Core.List.{List, [], _∷_, _++_, map}
+use Prim.Native.Nat.{ℕ}
+use mathlib.Core.List.{List, [], _∷_}
 use lib.IntN.{ℤ, pos}
 use Rattle.tape.specs.declared.Answer.{Answer}
 use Rattle.tape.specs.declared.Answer.the-variants as answer
 use Rattle.tape.specs.declared.Tape.{Tape}
-use Rattle.tape.specs.declared.refusal.Refusal.{Refusal}
-use Rattle.tape.specs.Refusals.{row, figure}
+use Rattle.numbers.specs.Numbers.{codeOf, readNumbers, referenceNumbers}
 use Rattle.judge.specs.declared.Judged.{Judged}
 use Rattle.judge.specs.declared.Judged.the-variants as judged
 use Rattle.judge.specs.declared.Shown.{Shown}
@@ -15,18 +13,7 @@ use Rattle.judge.specs.declared.Shown.the-variants as shown
 use Rattle.solver.specs.declared.Solved.{Solved}
 use Rattle.solver.specs.declared.Solved.the-variants as solved
 
--- A refusal's number, and 256 times what it carries.
-abbrev pub codeOf : Refusal → ℕ
-codeOf why = row why .number + 256 * figure (row why .carries)
-
 -- ---- read
-
--- The 118 numbers of a tape: n, m, N; A, B, w; lo, hi, r, h of each column; x(0); g, R, T.
-abbrev pub readNumbers : Tape → List ℤ
-readNumbers t =
-    (pos (t .n) ∷ pos (t .m) ∷ pos (t .horizon) ∷ [])
-    ++ t .a ++ t .b ++ t .drift ++ t .low ++ t .high ++ t .reference ++ t .weight ++ t .start
-    ++ (t .gain ∷ pos (t .rounds) ∷ t .wanted ∷ [])
 
 abbrev pub readCode : Answer → ℕ
 readCode answer.Accepted = 0
@@ -38,15 +25,6 @@ readLeft answer.Accepted t before = readNumbers t
 readLeft (answer.Refused why) t before = before
 
 -- ---- read references
-
--- 1 for a mark
-abbrev pub markNumber : Bool → ℤ
-markNumber given = cond given (pos 1) (pos 0)
-
--- The 240 numbers of a tape's curves: for column c and step k the reference of command 31 at 12c + k, 0 where there is none; its
--- mark at 120 + 12c + k.
-abbrev pub referenceNumbers : Tape → List ℤ
-referenceNumbers t = t .curves .reference ++ map markNumber (t .curves .given)
 
 abbrev pub referencesLeft : Answer → Tape → List ℤ → List ℤ
 referencesLeft answer.Accepted t before = referenceNumbers t

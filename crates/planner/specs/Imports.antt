@@ -9,11 +9,11 @@ use lib.Ieee.{Float, nan, fin}
 use Rattle.integer.specs.Places.{at}
 use Rattle.import.specs.declared.Entry.{Entry}
 use Rattle.import.specs.declared.Entry.the-variants.{Whole, Near, NotFinite, TooLarge}
-use Rattle.import.specs.declared.model.Model.{Model}
-use Rattle.import.specs.declared.model.Model.the-variants as model
+use Rattle.models.specs.declared.Model.{Model}
+use Rattle.models.specs.declared.Model.the-variants as model
 use Rattle.import.specs.Entries.{Exact}
-use Rattle.import.specs.Models.{Readable}
-use Rattle.planner.specs.Calls.{codeOf}
+use Rattle.models.specs.Models.{Readable}
+use Rattle.numbers.specs.Numbers.{codeOf}
 
 -- ---- one entry
 

@@ -2,13 +2,13 @@
 ghost use mathlib.Core.Path.{_≡_};
 ghost use lib.ListN.{length};
 ghost use Rattle.import.specs.Entries.{imported, refusalNumber};
-ghost use Rattle.import.specs.Models.{modelAnswer, modelLeft};
+ghost use Rattle.models.specs.Models.{modelAnswer, modelLeft};
 ghost use Rattle.planner.specs.Imports.{entryLeft, leftoverLeft, ExactBy, modelCode, ReadBackBy};
-use crate::code;
 use import::Entry;
 use import::import_entry;
-use import::model::Model;
-use import::model::import_model;
+use models::Model;
+use models::import_model;
+use numbers::code;
 
 // Imports an entry. `out` then holds kind and number, `leftover` what is left.
 #[no_mangle]

@@ -2,31 +2,29 @@
 // added, as C functions. Each returns 0 where it has a result, and else the refusal's number + 256
 // times what it carries.
 mod imports;
-mod numbers;
 
 ghost use Prim.Native.Nat.{_≤_};
+ghost use mathlib.Core.List.{[], _∷_};
 ghost use mathlib.Core.Path.{_≡_};
+ghost use lib.IntN.{pos};
 ghost use Rattle.commands.specs.Ranges.{mostRounds};
 ghost use Rattle.tape.specs.Reading.{reading};
-ghost use Rattle.tape.specs.Refusals.{row, figure};
 ghost use Rattle.judge.specs.Judging.{judged, shown};
 ghost use Rattle.solver.specs.Solving.{solving, answerOf, planLeft, multipliersLeft};
-ghost use Rattle.planner.specs.Calls.{codeOf, readCode, readLeft, referencesLeft, judgedCode, judgedLeft, shownCode, solvedCode, solvedLeft};
+ghost use Rattle.planner.specs.Calls.{readCode, readLeft, referencesLeft, judgedCode, judgedLeft, shownCode, solvedCode, solvedLeft};
 ghost use Rattle.planner.specs.Demand.{BackedBy, FoundedBy, UpheldBy, AgainBy, RoundsBy};
-use crate::numbers::numbers_of;
-use crate::numbers::proved_numbers;
-use crate::numbers::reference_numbers;
 use judge::Judged;
 use judge::Shown;
 use judge::judge_multipliers;
 use judge::judge_plan;
+use numbers::code;
+use numbers::numbers_of;
+use numbers::reference_numbers;
+use solver::Duties;
 use solver::Solved;
 use solver::solve;
 use tape::Answer;
 use tape::read;
-use tape::refusal::Refusal;
-use tape::refusal::figure;
-use tape::refusal::number;
 
 // Reads a tape. `out` then holds its numbers.
 #[no_mangle]
@@ -127,9 +125,18 @@ pub extern "C" fn fibergravel_solve(
     }
 }
 
-fn code(why: Refusal) -> u64
-    requires { ⌜ figure (row why .carries) ≤ mostRounds ⌝ }
-    ensures { λ r. ⌜ r ≡ codeOf why ⌝ }
+// Kind 1, rounds, gap and u(0).
+fn proved_numbers(rounds: usize, gap: i64, first: Duties) -> [i64; 7]
+    requires { ⌜ rounds ≤ mostRounds ⌝ }
+    ensures { λ r. ⌜ r ≡ pos 1 ∷ pos rounds ∷ gap ∷ first .u0 ∷ first .u1 ∷ first .u2 ∷ first .u3 ∷ [] ⌝ }
 {
-    (number(why) + 256 * figure(why)) as u64
+    [
+        1,
+        rounds as i64,
+        gap,
+        first.u0 as i64,
+        first.u1 as i64,
+        first.u2 as i64,
+        first.u3 as i64,
+    ]
 }

@@ -2,7 +2,7 @@ use mathlib.Core.Path.{refl, sym, _∙_}
 use denote.Ref.{now}
 use lib.ListN.{length}
 use borrow.Author.Needs.{needs}
-use Rattle.import.specs.declared.model.Model.the-variants.{Written, Refused}
+use Rattle.models.specs.declared.Model.the-variants.{Written, Refused}
 use Rattle.planner.proofs.Imported.{small-model, model-promise}
 use Rattle.planner.proofs.imports.fibergravel_import_model.Statement.{statement}
 use Rattle.planner.proofs.imports.fibergravel_import_model.Tie as tie

@@ -1,0 +1,3 @@
+-- What the functions' proofs, and the crates above, cite.
+pub mod Codes
+pub mod Filled

@@ -40,24 +40,19 @@ wide = 0x18 ∷ 0xFC ∷ 0xE8 ∷ 0x03 ∷ 0x6E ∷ 0x00 ∷ []
 abbrev pub ample : List ℕ
 ample = 0x40 ∷ 0x9C ∷ 0x00 ∷ 0x00 ∷ []
 
-abbrev F : Tape
-F = reading (bytes wide ample) .tape
-
 -- state limits 200 to 300, r 250
 abbrev pub narrow : List ℕ
 narrow = 0xC8 ∷ 0x00 ∷ 0x2C ∷ 0x01 ∷ 0xFA ∷ 0x00 ∷ []
 
-abbrev G : Tape
-G = reading (bytes narrow ample) .tape
+-- the state that the model gives after the input u of a tape's one step
+abbrev after : Tape → ℤ → ℤ
+after t u = rounded (sumAt (problemOf t) (planOf 1 1 (u ∷ [])) 0 0)
 
--- the state that the model gives after the inputs u of tape F's one step
-abbrev after : ℤ → ℤ
-after u = rounded (sumAt (problemOf F) (planOf 1 1 (u ∷ [])) 0 0)
-
-abbrev pub table : List (ℤ × ℤ)
-table =
+-- the rows of two tapes, which are read once and not for each row
+unfoldable pub rows : Tape → Tape → List (ℤ × ℤ)
+rows F G =
     -- M1
-    (after (pos 1), pos 101) ∷ (after (pos 2), pos 101) ∷ (after (pos 3), pos 102)
+    (after F (pos 1), pos 101) ∷ (after F (pos 2), pos 101) ∷ (after F (pos 3), pos 102)
     -- M2
     ∷ (rounded (negsuc 2047), pos 0) ∷ (rounded (negsuc 2048), negsuc 0)
     -- M3
@@ -75,9 +70,12 @@ table =
     ∷ (piece (problemOf G .stateTerm 0 0) (pos 409600), pos 92160000) ∷ (piece (problemOf G .stateTerm 0 0) (pos 409599), pos 92159800)
     ∷ []
 
+abbrev pub table : List (ℤ × ℤ)
+table = rows (reading (bytes wide ample) .tape) (reading (bytes narrow ample) .tape)
+
 -- tape F in two steps, with a curve of 110 and 130 for the state
-abbrev C : Tape
-C = reading (bytesOf 0x02 (0x31 ∷ 0x00 ∷ 0x00 ∷ 0x6E ∷ 0x00 ∷ 0x31 ∷ 0x00 ∷ 0x01 ∷ 0x82 ∷ 0x00 ∷ []) wide ample) .tape
+abbrev ramp : List ℕ
+ramp = bytesOf 0x02 (0x31 ∷ 0x00 ∷ 0x00 ∷ 0x6E ∷ 0x00 ∷ 0x31 ∷ 0x00 ∷ 0x01 ∷ 0x82 ∷ 0x00 ∷ []) wide ample
 
 -- a plan for it
 abbrev rising : List ℤ
@@ -85,17 +83,15 @@ rising = pos 4 ∷ pos 102 ∷ pos 4 ∷ pos 104 ∷ []
 
 -- the cost is 4096 (4² + 8² + 4² + 26²), the four pieces are 0, −7,471,104, −65,536 and 8,257,536, the ceiling is
 -- 4096 (2 · 40² + 1110² + 1130²)
-abbrev curveTable : List (ℤ × ℤ)
-curveTable =
+unfoldable curveRows : Tape → List (ℤ × ℤ)
+curveRows C =
     (costOf C rising, pos 3162112) ∷ (floorOf C (pos 0 ∷ negsuc 15 ∷ []), pos 688128) ∷ (gapOf C rising (pos 0 ∷ negsuc 15 ∷ []), pos 2473984)
     ∷ (ceiling (problemOf C), pos 10289971200)
     ∷ []
 
-pub figures : map (λ f. f .0) table ≡ map (λ f. f .1) table
-unfolding unsigned signed _÷_ sum pairCommand sizeCommand driftCommand columnCommand startCommand roundsCommand decoded wrongSize beyond outside any wrongColumn wrong among curved onCurve required obeySize obeyEntry absent obeyEnd obey next readFrom reading stepReference stateAt modelSum rounded total cost planCost inputSlope adjoint carried stateSlope conjugate tilt piece pieces constant sizes floor larger most ceiling
-figures = refl
+abbrev curveTable : List (ℤ × ℤ)
+curveTable = curveRows (reading ramp .tape)
 
--- by itself, since one fact about both tables takes three times as long
-curve-figures : map (λ f. f .0) curveTable ≡ map (λ f. f .1) curveTable
-unfolding unsigned signed _÷_ sum pairCommand sizeCommand driftCommand columnCommand startCommand roundsCommand decoded wrongSize beyond outside any wrongColumn wrong among curved onCurve required obeySize obeyEntry absent obeyEnd obey next readFrom reading stepReference stateAt modelSum rounded total cost planCost inputSlope adjoint carried stateSlope conjugate tilt piece pieces constant sizes floor larger most ceiling
-curve-figures = refl
+figures : map (λ f. f .0) (table ++ curveTable) ≡ map (λ f. f .1) (table ++ curveTable)
+unfolding rows curveRows unsigned signed _÷_ sum pairCommand sizeCommand driftCommand columnCommand startCommand roundsCommand decoded wrongSize beyond outside any wrongColumn wrong among curved onCurve required obeySize obeyEntry absent obeyEnd obey next readFrom reading stepReference stateAt modelSum rounded total cost planCost inputSlope adjoint carried stateSlope conjugate tilt piece pieces constant sizes floor larger most ceiling
+figures = refl

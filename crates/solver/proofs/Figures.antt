@@ -17,7 +17,7 @@ use Rattle.tape.specs.Refusals.{row, figure}
 use Rattle.problem.specs.Model.{stateAt, modelSum, rounded, residual}
 use Rattle.problem.specs.Cost.{total, cost, planCost}
 use Rattle.problem.specs.Dual.{inputSlope, adjoint, carried, stateSlope, conjugate, tilt, piece, pieces, constant, sizes, floor, larger, most, ceiling}
-use Rattle.problem.proofs.Figures.{bytes, wide, narrow, ample, table}
+use Rattle.problem.proofs.Figures.{bytes, wide, narrow, ample, rows, table}
 use Rattle.lent.specs.Checks.{first, tested, stateCheck, stepCheck, planCheck}
 use Rattle.judge.specs.declared.Judged.{Judged}
 use Rattle.judge.specs.declared.Judged.the-variants as judgement
@@ -75,5 +75,5 @@ whole =
     ∷ []
 
 pub figures : map (λ f. f .0) whole ≡ map (λ f. f .1) whole
-unfolding unsigned signed _÷_ sum pairCommand sizeCommand driftCommand columnCommand startCommand roundsCommand decoded wrongSize beyond outside wrongColumn wrong among curved onCurve required obeySize obeyEntry absent obeyEnd obey next readFrom reading stepReference stateAt modelSum rounded residual total cost planCost inputSlope adjoint carried stateSlope conjugate tilt piece pieces constant sizes floor larger most ceiling limited any first tested stateCheck stepCheck planCheck gapWithin judgedOn judged shownOn shown listed joined ahead minimiser modelStates dropped verdict ascended rounds solvingOn solving
+unfolding rows unsigned signed _÷_ sum pairCommand sizeCommand driftCommand columnCommand startCommand roundsCommand decoded wrongSize beyond outside wrongColumn wrong among curved onCurve required obeySize obeyEntry absent obeyEnd obey next readFrom reading stepReference stateAt modelSum rounded residual total cost planCost inputSlope adjoint carried stateSlope conjugate tilt piece pieces constant sizes floor larger most ceiling limited any first tested stateCheck stepCheck planCheck gapWithin judgedOn judged shownOn shown listed joined ahead minimiser modelStates dropped verdict ascended rounds solvingOn solving
 figures = refl

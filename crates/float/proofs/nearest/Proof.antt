@@ -1,4 +1,4 @@
--- `nearest` meets its contract: x less its whole part is exact, so each test is one of exact numbers.
+-- x less its whole part is exact, so each test is one of exact numbers.
 use mathlib.Core.Path.{_≡_, _∙_, subst}
 use mathlib.Core.Bool.{true, false}
 use native.Mathlib.Omega.{arith}

@@ -1,4 +1,4 @@
--- `import::import_entry` meets its contract: each test is one of exact numbers.
+-- Each test is one of exact numbers.
 use Prim.Native.Nat.{_≤_}
 use mathlib.Core.Path.{_≡_, ap, _∙_, subst}
 use mathlib.Core.Bool.{true, false}

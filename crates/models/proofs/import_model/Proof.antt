@@ -1,4 +1,3 @@
--- `import::model::import_model` meets its contract.
 use mathlib.Core.Path.{refl, sym, _∙_, subst}
 use native.Mathlib.Omega.{arith}
 use denote.Ref.{now}

@@ -1,4 +1,3 @@
--- `import::model::number_of` meets its contract.
 use Prim.Native.Nat.{_≤_}
 use mathlib.Core.Path.{_≡_, sym, ap, _∙_, subst}
 use lib.IntN.{ℤ, natAbs}

@@ -1,4 +1,3 @@
--- `import::model::twos_complement` meets its contract.
 use mathlib.Core.Path.{refl}
 use native.Mathlib.Omega.{arith}
 use native.Mathlib.Nat.{le-refl}

@@ -1,4 +1,3 @@
--- `import::model::verdict` meets its contract.
 use borrow.Author.Needs.{needs}
 use Rattle.models.proofs.verdict.Statement.{statement}
 use Rattle.models.proofs.verdict.Tie as tie

@@ -1,4 +1,3 @@
--- `import::model::write_commands` meets its contract.
 use Prim.Native.Nat.{_+_, _-_, _*_, _/_, _%_, _<_, _≤_, zero-le}
 use mathlib.Core.Path.{_≡_, refl, sym, ap, ap₂, _∙_}
 use mathlib.Core.List.{List, _∷_, _++_}

@@ -48,7 +48,7 @@ narrow = 0xC8 ∷ 0x00 ∷ 0x2C ∷ 0x01 ∷ 0xFA ∷ 0x00 ∷ []
 abbrev after : Tape → ℤ → ℤ
 after t u = rounded (sumAt (problemOf t) (planOf 1 1 (u ∷ [])) 0 0)
 
--- the rows of two tapes, which are read once and not for each row
+-- the rows, by tape F and M9's tape: a function of the two, so that each is read once and not for every row
 unfoldable pub rows : Tape → Tape → List (ℤ × ℤ)
 rows F G =
     -- M1

@@ -16,15 +16,16 @@ use Rattle.words.proofs.missing_ones.Tie as tie
 abbrev missing : List ℕ → List ℕ → ℕ → Bool
 missing required given i = bitOf required i && not (bitOf given i)
 
--- those of one word more
-one-word-more : (required given : List ℕ) (w : ℕ) → count (64 * w) (missing required given)
-    + count 64 (λ b. bit (getD required w 0) b && not (bit (getD given w 0) b)) ≡ count (64 * (w + 1)) (missing required given)
-one-word-more required given w =
+-- those of one word more, which is word w on both sides
+one-word-more : (required given : List ℕ) (w p q : ℕ) → p ≡ w → q ≡ w → count (64 * w) (missing required given)
+    + count 64 (λ b. bit (getD required p 0) b && not (bit (getD given q 0) b)) ≡ count (64 * (w + 1)) (missing required given)
+one-word-more required given w p q e f =
     let more : 64 * w + 64 ≡ 64 * (w + 1) = omega arith in
-    ap (λ (n : ℕ). count (64 * w) (missing required given) + n)
+    rw (e, f)
+    (ap (λ (n : ℕ). count (64 * w) (missing required given) + n)
     (count-cong 64 (λ b. bit (getD required w 0) b && not (bit (getD given w 0) b)) (λ b. missing required given (64 * w + b))
     (λ b l. sym (ap₂ (λ (p q : Bool). p && not q) (bit-of required w b l) (bit-of given w b l))))
-    ∙ sym (count-parts (64 * w) 64 (missing required given)) ∙ ap (λ (n : ℕ). count n (missing required given)) more
+    ∙ sym (count-parts (64 * w) 64 (missing required given)) ∙ ap (λ (n : ℕ). count n (missing required given)) more)
 
 abbrev Inv-loop : tie.InvT-loop
 Inv-loop required given sum₀ word₀ sum word = (word ≤ 3) × (sum ≡ count (64 * word) (missing required given))
@@ -59,7 +60,7 @@ summed : (c : tie.After-missing-in Inv-loop μ-loop) →
 summed c =
     let a = c .before .before .before .before .before .args in
     let loop = c .before .before .before .before .loop in
-    ap₂ _+_ (loop .inv .1) (c .missing-in .ensures) ∙ one-word-more (a .required .now) (a .given .now) (loop .word)
+    ap₂ _+_ (loop .inv .1) (c .missing-in .ensures) ∙ one-word-more (a .required .now) (a .given .now) (loop .word) _ _ (omega arith) (omega arith)
 
 add-sum : tie.Need-add-sum Inv-loop μ-loop
 add-sum c =

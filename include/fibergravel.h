@@ -7,8 +7,8 @@
  * x86-64 Linux, and needs memcpy and memset from outside and nothing else.
  *
  * For ever. A call that stands here keeps its name, its arguments and the places of its `out`. What is
- * added later comes as a new call, a new command of the tape or a new refusal, and FIBERGRAVEL_VERSION
- * goes up.
+ * added later comes as a new call, a new command of the tape or a wider range in one, or a new refusal,
+ * and FIBERGRAVEL_VERSION goes up.
  *
  * Memory. The caller owns all of it: the calls allocate nothing, keep no pointer and have no state
  * between them. So they may run on several threads at once, as long as no memory that one of them
@@ -47,9 +47,10 @@
 extern "C" {
 #endif
 
-/* The version of the calls, one number that compares: 100 times the first part plus the second. */
+/* The version of the calls, one number that compares: 100 times the first part plus the second. With 1.1
+   came curves, with 1.2 the imports, with 1.3 weights of 0. */
 #define FIBERGRAVEL_VERSION_MAJOR 1
-#define FIBERGRAVEL_VERSION_MINOR 2
+#define FIBERGRAVEL_VERSION_MINOR 3
 #define FIBERGRAVEL_VERSION (100 * FIBERGRAVEL_VERSION_MAJOR + FIBERGRAVEL_VERSION_MINOR)
 
 /* The number of a refusal, and what it carries. */
@@ -110,8 +111,9 @@ enum {
     FIBERGRAVEL_DRIFT = 63,         /* 6: w(i) */
     FIBERGRAVEL_LOW = 69,           /* 10: lo of each column, the n states and then the m inputs */
     FIBERGRAVEL_HIGH = 79,          /* 10: hi */
-    FIBERGRAVEL_REFERENCE = 89,     /* 10: r of command 30, unused where the column has a curve */
-    FIBERGRAVEL_WEIGHT = 99,        /* 10: h */
+    FIBERGRAVEL_REFERENCE = 89,     /* 10: r of command 30, unused where the column has a curve or
+                                       weight 0 */
+    FIBERGRAVEL_WEIGHT = 99,        /* 10: h, 0 for a column without a target */
     FIBERGRAVEL_START = 109,        /* 6: x(0) */
     FIBERGRAVEL_GAIN = 115,         /* g */
     FIBERGRAVEL_ROUNDS = 116,       /* R */

@@ -94,9 +94,10 @@ pub struct Tape {
     pub lo: [i64; MOST_COLUMNS],
     /// The upper limit of each column.
     pub hi: [i64; MOST_COLUMNS],
-    /// The reference r of each column's command 30. It is unused where the column has a curve.
+    /// The reference r of each column's command 30. It is unused where the column has a curve or
+    /// weight 0.
     pub reference: [i64; MOST_COLUMNS],
-    /// The weight h of each column.
+    /// The weight h of each column, 0 for a column without a target.
     pub weight: [i64; MOST_COLUMNS],
     /// The start x(0).
     pub start: [i64; MOST_STATES],

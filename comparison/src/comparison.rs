@@ -41,6 +41,12 @@ pub const PLAN_LENGTHS: &str = "plan lengths";
 pub const MULTIPLIER_LENGTHS: &str = "multiplier lengths";
 /// Of [`ALSO`]: multipliers whose floor is the ceiling.
 pub const EQUAL: &str = "floor equal to ceiling";
+/// Of [`ALSO`]: each byte as the weight of each column.
+pub const EVERY_WEIGHT: &str = "every weight of every column";
+/// Of [`ALSO`]: all weights 0 with all other numbers at their limits.
+pub const ALL_WEIGHTS_0: &str = "all weights 0, other numbers at limits";
+/// Of [`ALSO`]: all weights 0 with lo = hi in every column.
+pub const ONE_NUMBER: &str = "all weights 0, lo = hi";
 /// Of [`ALSO`]: entries beside every number and every half.
 pub const ENTRIES: &str = "entries beside numbers, halves and powers of two";
 /// Of [`ALSO`]: models with slices of every length, and of sizes beside the range.
@@ -49,6 +55,25 @@ pub const MODEL_LENGTHS: &str = "model lengths and sizes";
 pub const FAULTS: &str = "faulty entries of models";
 /// Of [`ALSO`]: tapes with an imported model.
 pub const IMPORTED: &str = "imported models read from a tape";
+
+/// The names under [`ALSO`].
+const ALSO_NAMES: [&str; 15] = [
+    CUT,
+    JUDGED,
+    TAPE_LENGTHS,
+    PLACES,
+    MISSING,
+    PLAN_LENGTHS,
+    MULTIPLIER_LENGTHS,
+    EQUAL,
+    EVERY_WEIGHT,
+    ALL_WEIGHTS_0,
+    ONE_NUMBER,
+    ENTRIES,
+    MODEL_LENGTHS,
+    FAULTS,
+    IMPORTED,
+];
 
 /// What has been compared so far.
 pub struct Comparison {
@@ -73,21 +98,7 @@ impl Comparison {
         counts.expect(tune::ROUNDS_CUT, answers(&[], &[15]));
         counts.expect(tune::GAP_RAISED, answers(&["proved"], &[]));
         counts.expect(tune::LIMITS_NARROWED, answers(&["impossible"], &[]));
-        let also = [
-            CUT,
-            JUDGED,
-            TAPE_LENGTHS,
-            PLACES,
-            MISSING,
-            PLAN_LENGTHS,
-            MULTIPLIER_LENGTHS,
-            EQUAL,
-            ENTRIES,
-            MODEL_LENGTHS,
-            FAULTS,
-            IMPORTED,
-        ];
-        counts.expect(ALSO, also.map(str::to_string));
+        counts.expect(ALSO, ALSO_NAMES.map(str::to_string));
         let refusals = [1, 2, 3, 4, 5, 6, 7, 8];
         let curves = [NO_CURVE, SOME_CURVES, ALL_CURVES];
         counts.expect(REFERENCES, answers(&curves, &refusals));

@@ -37,7 +37,7 @@ fn longest(random: &mut Random) -> Vec<Vec<u8>> {
 }
 
 /// Gives every column a curve.
-fn put_curves(furnace: &mut Furnace, random: &mut Random) {
+pub fn put_curves(furnace: &mut Furnace, random: &mut Random) {
     for curve in &mut furnace.curves {
         let steps = 0..furnace.horizon;
         let references = steps.map(|_| random.between(-NUMBER_RANGE, NUMBER_RANGE));
@@ -125,7 +125,7 @@ fn alone(commands: &[Vec<u8>], place: usize) -> Vec<u8> {
 }
 
 /// A furnace of each of the sizes, with few rounds.
-fn of_all_sizes(random: &mut Random) -> Vec<Furnace> {
+pub fn of_all_sizes(random: &mut Random) -> Vec<Furnace> {
     let mut all = BTreeMap::new();
     while all.len() < MOST_STATES * MOST_INPUTS * MOST_STEPS {
         let mut furnace = plain(random);

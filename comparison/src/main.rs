@@ -14,6 +14,7 @@ mod memory;
 mod part;
 mod slip;
 mod tune;
+mod weights;
 mod wrapper;
 
 use std::env;
@@ -27,13 +28,13 @@ comparison compare [COUNT [SEED]]
     gives a drawn set of places, 50 entries and 2 models in floats, by the second program's
     generators and runs them through the seven calls of libplanner.a and through the second
     program; before them tapes, slices and models of every length, tapes without each of the
-    required places, entries beside every number and every half, and inputs of the program slip.
-    Every number of every answer and of everything lent is compared, refusals included, with guard
-    cells around what is lent, floats bit by bit; so is the text of the program slip. Says every
-    10000 tapes on standard error where it is. Prints how often each answer and each refusal came,
-    and each difference with its origin, everything lent and the command that repeats it. Fails if
-    something differs or if a count is 0, which is to be expected of a small COUNT. Where one side
-    crashes, it names the command that repeats that.
+    required places, tapes with weights of 0 at the edges, entries beside every number and every
+    half, and inputs of the program slip. Every number of every answer and of everything lent is
+    compared, refusals included, with guard cells around what is lent, floats bit by bit; so is the
+    text of the program slip. Says every 10000 tapes on standard error where it is. Prints how often
+    each answer and each refusal came, and each difference with its origin, everything lent and the
+    command that repeats it. Fails if something differs or if a count is 0, which is to be expected
+    of a small COUNT. Where one side crashes, it names the command that repeats that.
 
 comparison compare-here COUNT SEED
     The same in this process, as `compare` runs it; a crash ends it. A line `at PART` on standard
@@ -45,11 +46,13 @@ comparison replay PART
     inputs of the program slip (slips), tapes of every length (tapes), the longest tape with a
     command left out, given again or alone (places), tapes of the largest sizes with all curves
     that lack one required place, two neighbours or more (missing), plans and multipliers of every
-    length (slices), floors at the ceiling (equal), entries beside numbers, halves and powers of
-    two (entries), models of every length and with a faulty entry at every place (models).
+    length (slices), floors at the ceiling (equal), every weight, and all weights 0 with other
+    numbers at their limits and with one number a column (weights), entries beside numbers, halves
+    and powers of two (entries), models of every length and with a faulty entry at every place
+    (models).
 
 comparison memory [COUNT [SEED]]
-    Compares COUNT (150) cases, tapes with drawn places, and entries and models, with each thing
+    Compares COUNT (200) cases, tapes with drawn places, and entries and models, with each thing
     that is lent in a block of just its size. Under valgrind, which then sees any read or write
     outside what is lent:
         valgrind -q --error-exitcode=1 target/release/comparison memory
@@ -82,7 +85,7 @@ fn run(words: &[&str]) -> Result<ExitCode, String> {
         ["compare", count, seed] => return compare::compare(number(count)?, number(seed)?),
         ["compare-here", count, seed] => compare::compare_here(number(count)?, number(seed)?)?,
         ["replay", part] => compare::replay(part.parse()?)?,
-        ["memory"] => memory::memory(150, 0)?,
+        ["memory"] => memory::memory(200, 0)?,
         ["memory", count] => memory::memory(number(count)?, 0)?,
         ["memory", count, seed] => memory::memory(number(count)?, number(seed)?)?,
         ["benchmark"] => benchmark::benchmark(20)?,

@@ -18,6 +18,8 @@ pub enum Part {
     Slices,
     /// Multipliers whose floor is the ceiling.
     Equal,
+    /// Weights of 0 at the edges.
+    Weights,
     /// Entries beside numbers, halves and powers of two.
     Entries,
     /// Models of every length, and with a faulty entry at every place.
@@ -34,13 +36,14 @@ pub enum Part {
 
 impl Part {
     /// All that have no seed.
-    pub const EDGES: [Part; 8] = [
+    pub const EDGES: [Part; 9] = [
         Part::Slips,
         Part::Tapes,
         Part::Places,
         Part::Missing,
         Part::Slices,
         Part::Equal,
+        Part::Weights,
         Part::Entries,
         Part::Models,
     ];
@@ -74,6 +77,7 @@ impl fmt::Display for Part {
             Part::Missing => f.write_str("missing"),
             Part::Slices => f.write_str("slices"),
             Part::Equal => f.write_str("equal"),
+            Part::Weights => f.write_str("weights"),
             Part::Entries => f.write_str("entries"),
             Part::Models => f.write_str("models"),
             Part::Case(seed) => write!(f, "{seed}"),

@@ -12,7 +12,7 @@ use crate::calls::{judge_multipliers, judge_plan, read, solve, Shown, Solved};
 use crate::generate::{case, Case, Kind};
 use crate::model::{Furnace, Whole};
 use crate::refusal::Refusal;
-use crate::shapes::{curves, SHAPES};
+use crate::shapes::{all_weights_0, curves, some_weight_0, Shape, SHAPES};
 use crate::tape::{
     operand_bytes, END, MOST_INPUTS, MOST_ROUNDS, MOST_STATES, MOST_STEPS, STEP_REFERENCE,
 };
@@ -37,6 +37,18 @@ const LAST_ROUND: &str = "in round R";
 
 /// Counted with the shapes: an answer for a curve that took more than the first rounds.
 const LATER_WITH_CURVE: &str = "a curve, 3 rounds or more";
+
+/// Counted with the shapes: an answer for a weight of 0 that took more than the first rounds.
+const LATER_WITH_WEIGHT_0: &str = "weight 0, 3 rounds or more";
+
+/// The headings of what rounds come to with weights of 0, and whether a furnace counts there.
+const WEIGHTS_0: [Shape; 2] = [
+    ("solve, some weight 0", some_weight_0),
+    ("solve, all weights 0", all_weights_0),
+];
+
+/// The names under [`WEIGHTS_0`]. With all weights 0 a gap is minus the floor.
+const ENDS: [&str; 4] = ["proved, gap 0", "proved, gap above 0", "impossible", "open"];
 
 /// The heading of tapes that [`read`] accepts, by their curves.
 const CURVES: &str = "read, curves";
@@ -84,11 +96,14 @@ impl Counts {
                 groups.iter().map(|(_, name)| name.to_string()),
             );
             let shapes = SHAPES.iter().map(|(name, _)| *name);
-            let shapes = shapes.chain([LATER_WITH_CURVE, LAST_ROUND]);
+            let shapes = shapes.chain([LATER_WITH_CURVE, LATER_WITH_WEIGHT_0, LAST_ROUND]);
             counts.expect(&heading("shape"), shapes.map(str::to_string));
             counts.expect(&heading("n"), up_to(MOST_STATES));
             counts.expect(&heading("m"), up_to(MOST_INPUTS));
             counts.expect(&heading("N"), up_to(MOST_STEPS));
+        }
+        for (heading, _) in WEIGHTS_0 {
+            counts.expect(heading, ENDS.map(str::to_string));
         }
         counts
     }
@@ -135,6 +150,9 @@ impl Counts {
         }
         if curves(furnace) > 0 && rounds >= 3 {
             self.add(&shape, LATER_WITH_CURVE);
+        }
+        if some_weight_0(furnace) && rounds >= 3 {
+            self.add(&shape, LATER_WITH_WEIGHT_0);
         }
         if rounds == furnace.rounds {
             self.add(&shape, LAST_ROUND);
@@ -187,6 +205,11 @@ impl Counts {
         answer: Result<Solved, Refusal>,
         furnace: &Result<Furnace, Refusal>,
     ) {
+        if let (Some(end), Ok(furnace)) = (end(answer), furnace) {
+            for (heading, _) in WEIGHTS_0.iter().filter(|(_, has)| has(furnace)) {
+                self.add(heading, end);
+            }
+        }
         let answer = answer.map(|solved| match solved {
             Solved::Proved { rounds, .. } => ("proved", rounds),
             Solved::Impossible { rounds } => ("impossible", rounds),
@@ -259,6 +282,18 @@ impl Counts {
             }
         }
         text
+    }
+}
+
+/// What the rounds of a solve come to, of [`ENDS`]; nothing where none was entered.
+fn end(answer: Result<Solved, Refusal>) -> Option<&'static str> {
+    let [exact, wide, impossible, open] = ENDS;
+    match answer {
+        Ok(Solved::Proved { gap: 0, .. }) => Some(exact),
+        Ok(Solved::Proved { .. }) => Some(wide),
+        Ok(Solved::Impossible { .. }) => Some(impossible),
+        Err(Refusal::Open { .. }) => Some(open),
+        Err(_) => None,
     }
 }
 

@@ -29,8 +29,22 @@ pub fn state_slope(furnace: &Furnace, y: &Multipliers, k: usize, i: usize) -> Wh
     slope
 }
 
+/// The end that a column of weight 0 takes at slope s: lo where s ≥ 0, hi otherwise. P is 0 there,
+/// so that s × v is all of its term, and nothing can be divided by P.
+pub fn end_by_slope(column: &Column, s: Whole) -> Whole {
+    if s >= 0 {
+        column.lo
+    } else {
+        column.hi
+    }
+}
+
 /// The piece of a plan number with slope s: a lower bound of P × (v − r)² + s × v over lo to hi.
+/// At weight 0 it is s × lo where s ≥ 0 and s × hi otherwise.
 pub fn piece(column: &Column, s: Whole) -> Whole {
+    if column.weight == 0 {
+        return s * end_by_slope(column, s);
+    }
     let p = column.price();
     let Column {
         lo,
@@ -112,4 +126,60 @@ pub fn ceiling(furnace: &Furnace) -> Whole {
 /// Multipliers show impossibility when the floor exceeds the ceiling.
 pub fn shows_impossibility(furnace: &Furnace, y: &Multipliers) -> bool {
     floor(furnace, y) > ceiling(furnace)
+}
+
+#[cfg(test)]
+mod tests {
+    use super::*;
+
+    /// A column of weight 0.
+    fn unweighted(lo: Whole, hi: Whole, reference: Whole) -> Column {
+        Column {
+            lo,
+            hi,
+            reference,
+            weight: 0,
+        }
+    }
+
+    #[test]
+    fn weight_0_takes_an_end() {
+        let column = unweighted(-3, 9, 5);
+        assert_eq!(end_by_slope(&column, 1), -3);
+        assert_eq!(end_by_slope(&column, 0), -3);
+        assert_eq!(end_by_slope(&column, -1), 9);
+    }
+
+    #[test]
+    fn pieces_of_weight_0() {
+        // 7 × −3, 0 × −3, −7 × 9.
+        let column = unweighted(-3, 9, 5);
+        assert_eq!(piece(&column, 7), -21);
+        assert_eq!(piece(&column, 0), 0);
+        assert_eq!(piece(&column, -7), -63);
+        // Limits of one sign: 100 × 200, −100 × 300; −100 × −200, 100 × −300.
+        assert_eq!(piece(&unweighted(200, 300, 250), 100), 20_000);
+        assert_eq!(piece(&unweighted(200, 300, 250), -100), -30_000);
+        assert_eq!(piece(&unweighted(-300, -200, 0), -100), 20_000);
+        assert_eq!(piece(&unweighted(-300, -200, 0), 100), -30_000);
+    }
+
+    #[test]
+    fn pieces_of_weight_0_with_one_number() {
+        // 7 s, whatever the sign.
+        let column = unweighted(7, 7, 5);
+        assert_eq!(piece(&column, 10), 70);
+        assert_eq!(piece(&column, 0), 0);
+        assert_eq!(piece(&column, -10), -70);
+    }
+
+    #[test]
+    fn the_reference_of_weight_0_does_not_count() {
+        for reference in [-20_000, -4, -3, 0, 9, 10, 20_000] {
+            let column = unweighted(-3, 9, reference);
+            assert_eq!(piece(&column, 7), -21);
+            assert_eq!(piece(&column, 0), 0);
+            assert_eq!(piece(&column, -7), -63);
+        }
+    }
 }

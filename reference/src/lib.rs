@@ -1,15 +1,16 @@
 //! A second program for the sinter furnace planner.
 //!
 //! It is written from the papers alone, so that the planner's answers can be compared with it:
-//! document 01 ("Sinter furnace planner: tape, plan, gap") and requests 1 to 3 of document 02
-//! ("Requests for later changes"), a reference for each step, models in floats and given marks. It
-//! puts plainness before speed: the sums are written as the papers write them, and all whole
-//! numbers have 128 bits.
+//! document 01 ("Sinter furnace planner: tape, plan, gap") and requests 1 to 4 of document 02
+//! ("Requests for later changes"), a reference for each step, models in floats, given marks and
+//! columns of weight 0. It puts plainness before speed: the sums are written as the papers write
+//! them, and all whole numbers have 128 bits.
 //!
 //! The modules follow document 01's sections: [`model`], [`tape`], [`floor`], [`rounds`],
-//! [`calls`], [`refusal`] and [`mod@slip`]; [`import`] is request 2, [`marks`] request 3. [`cases`]
-//! answers a text of test cases, [`generate`] makes tapes, plans, multipliers, entries and models
-//! from a seed, and [`count`] counts what they lead to, by rounds, sizes and [`shapes`].
+//! [`calls`], [`refusal`] and [`mod@slip`]; [`import`] is request 2, [`marks`] request 3, and
+//! request 4's rule is [`floor::end_by_slope`]. [`cases`] answers a text of test cases,
+//! [`generate`] makes tapes, plans, multipliers, entries and models from a seed, and [`count`]
+//! counts what they lead to, by rounds, sizes and [`shapes`].
 #![forbid(unsafe_code)]
 #![deny(missing_docs)]
 // The loops name the paper's indexes k, i and j.

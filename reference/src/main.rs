@@ -67,9 +67,10 @@ reference generate [COUNT [SEED]]
     Makes COUNT (10000) cases from the seeds SEED (0), SEED + 1, .., and for each seed a tape that
     gives a drawn set of places, 50 entries and 2 models in floats, runs them through the calls and
     writes how often each answer and each refusal came, how often 'proved' and 'impossible' came by
-    rounds, sizes, rare shapes and curves, how often a command 31 brought a refusal about, how many
-    required places were missing, and answers to entries and models by kinds, sizes and rare
-    shapes. Fails if a count is 0, which is to be expected of a small COUNT.
+    rounds, sizes, rare shapes, curves and weights of 0, what a solve came to with these, how often
+    a command 31 brought a refusal about, how many required places were missing, and answers to
+    entries and models by kinds, sizes and rare shapes. Fails if a count is 0, which is to be
+    expected of a small COUNT.
 ";
 
 fn main() -> ExitCode {

@@ -33,7 +33,7 @@ pub struct Column {
     pub hi: Whole,
     /// The reference r.
     pub reference: Whole,
-    /// The weight h.
+    /// The weight h. At 0 nothing that the column's numbers are costs anything.
     pub weight: Whole,
 }
 

@@ -1,6 +1,8 @@
 //! The rounds: an accelerated gradient ascent on the multipliers.
 
-use crate::floor::{ceiling, floor, input_slope, state_slope, Multipliers, MULTIPLIER_RANGE};
+use crate::floor::{
+    ceiling, end_by_slope, floor, input_slope, state_slope, Multipliers, MULTIPLIER_RANGE,
+};
 use crate::model::{cost, floor_div, next_state, residual, Column, Furnace, Plan, Whole};
 
 /// What step 3 made of the inputs of step 2.
@@ -109,8 +111,12 @@ fn all_momentum(furnace: &Furnace, k: u32, y: &Multipliers, previous: &Multiplie
     y_tilde
 }
 
-/// Step 2: v = (2P × r − s + P) / 2P, rounded down and limited to lo and hi.
+/// Step 2: v = (2P × r − s + P) / 2P, rounded down and limited to lo and hi. At weight 0 it is lo
+/// or hi by the rule of the piece.
 pub fn minimiser(column: &Column, s: Whole) -> Whole {
+    if column.weight == 0 {
+        return end_by_slope(column, s);
+    }
     let p = column.price();
     let r = column.reference;
     column.limit(floor_div(2 * p * r - s + p, 2 * p))
@@ -318,5 +324,23 @@ mod tests {
         assert_eq!(minimiser(&column, 8_192 * 8), -3);
         assert_eq!(minimiser(&column, 8_192 * 9), -3);
         assert_eq!(minimiser(&column, -8_192 * 9), 9);
+    }
+
+    #[test]
+    fn minimiser_of_weight_0() {
+        // Within the limits, at them and outside them, the reference does not count.
+        for reference in [-20_000, -3, 5, 9, 20_000] {
+            let column = Column {
+                lo: -3,
+                hi: 9,
+                reference,
+                weight: 0,
+            };
+            let numbers = [-8_192, -1, 0, 1, 8_192].map(|s| minimiser(&column, s));
+            assert_eq!(numbers, [9, 9, -3, -3, -3]);
+            let one = Column { hi: -3, ..column };
+            let numbers = [-1, 0, 1].map(|s| minimiser(&one, s));
+            assert_eq!(numbers, [-3, -3, -3]);
+        }
     }
 }

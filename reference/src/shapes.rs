@@ -14,20 +14,13 @@ pub const LARGE: Whole = ENTRY_RANGE / 2;
 /// A shape of furnaces: its name, and whether a furnace has it.
 pub type Shape = (&'static str, fn(&Furnace) -> bool);
 
-/// The shapes. Answers to furnaces of each are counted.
-pub const SHAPES: [Shape; 13] = [
-    ("state r below lo", |f| {
-        states(f).any(|c| c.reference < c.lo)
-    }),
-    ("state r above hi", |f| {
-        states(f).any(|c| c.reference > c.hi)
-    }),
-    ("input r below lo", |f| {
-        inputs(f).any(|c| c.reference < c.lo)
-    }),
-    ("input r above hi", |f| {
-        inputs(f).any(|c| c.reference > c.hi)
-    }),
+/// The shapes. Answers to furnaces of each are counted. A reference that counts for nothing, since
+/// its weight is 0, has a shape of its own.
+pub const SHAPES: [Shape; 19] = [
+    ("state r below lo", |f| states(f).any(is_below)),
+    ("state r above hi", |f| states(f).any(is_above)),
+    ("input r below lo", |f| inputs(f).any(is_below)),
+    ("input r above hi", |f| inputs(f).any(is_above)),
     ("state lo = hi", |f| states(f).any(|c| c.lo == c.hi)),
     ("input lo = hi", |f| inputs(f).any(|c| c.lo == c.hi)),
     ("A and B large, both signs", |f| {
@@ -45,11 +38,44 @@ pub const SHAPES: [Shape; 13] = [
     ("a curve of 12 steps", |f| {
         curves(f) > 0 && f.horizon == MOST_STEPS
     }),
+    ("a state of weight 0", |f| states(f).any(|c| c.weight == 0)),
+    ("an input of weight 0", |f| inputs(f).any(|c| c.weight == 0)),
+    ("all weights 0", all_weights_0),
+    ("weight 0, lo = hi", |f| {
+        f.columns.iter().any(|c| c.weight == 0 && c.lo == c.hi)
+    }),
+    ("weight 0, r outside", |f| {
+        in_every_step(f, 0..f.columns.len()).any(|c| c.weight == 0 && !c.contains(c.reference))
+    }),
+    ("weight 0 with a curve", |f| {
+        let mut columns = f.columns.iter().zip(&f.curves);
+        columns.any(|(column, curve)| column.weight == 0 && curve.is_some())
+    }),
 ];
 
 /// How many columns have a curve.
 pub fn curves(furnace: &Furnace) -> usize {
     furnace.curves.iter().flatten().count()
+}
+
+/// Has any column weight 0?
+pub fn some_weight_0(furnace: &Furnace) -> bool {
+    furnace.columns.iter().any(|column| column.weight == 0)
+}
+
+/// Have all columns weight 0?
+pub fn all_weights_0(furnace: &Furnace) -> bool {
+    furnace.columns.iter().all(|column| column.weight == 0)
+}
+
+/// Does the reference lie below lo, and count?
+fn is_below(column: Column) -> bool {
+    column.weight > 0 && column.reference < column.lo
+}
+
+/// Does the reference lie above hi, and count?
+fn is_above(column: Column) -> bool {
+    column.weight > 0 && column.reference > column.hi
 }
 
 /// The columns of states, with the references of every step.

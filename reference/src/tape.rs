@@ -36,7 +36,7 @@ pub const ENTRY_RANGE: Whole = 16_384;
 pub const DRIFT_RANGE: Whole = 16_777_216;
 /// lo, hi, r, the references of steps and start values lie in −20,000 to 20,000.
 pub const NUMBER_RANGE: Whole = 20_000;
-/// The largest weight h.
+/// The largest weight h. The smallest is 0.
 pub const MOST_WEIGHT: Whole = 255;
 /// The largest R.
 pub const MOST_ROUNDS: Whole = 10_000;
@@ -242,12 +242,12 @@ fn number(bytes: &[u8], offset: usize) -> Result<Whole, Refusal> {
     in_range(signed(bytes), -NUMBER_RANGE, NUMBER_RANGE, offset)
 }
 
-/// lo, hi, r and h of command 30.
+/// lo, hi, r and h of command 30. h may be any unsigned number of one byte.
 fn column(bytes: &[u8], offset: usize) -> Result<Column, Refusal> {
     let lo = number(&bytes[0..2], offset)?;
     let hi = number(&bytes[2..4], offset)?;
     let reference = number(&bytes[4..6], offset)?;
-    let weight = in_range(unsigned(&bytes[6..7]), 1, MOST_WEIGHT, offset)?;
+    let weight = unsigned(&bytes[6..7]);
     if lo > hi {
         return Err(Refusal::OutOfRange { offset });
     }

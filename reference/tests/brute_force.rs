@@ -1,6 +1,8 @@
 //! Tiny tapes, on which all rivals can be listed. The model and the cost are written here a
 //! second time, for one state and one input.
 
+use std::collections::BTreeMap;
+
 use reference::floor::{ceiling, floor, piece};
 use reference::generate::commands;
 use reference::generate::Random;
@@ -14,23 +16,27 @@ fn tiny(random: &mut Random) -> Furnace {
     tiny_of(horizon, random)
 }
 
-/// [`tiny`] with a given number of steps. Half of the columns have a curve.
+/// [`tiny`] with a given number of steps. Half of the columns have a curve. Half of the furnaces have
+/// weight 0, a sixth on both columns.
 fn tiny_of(horizon: usize, random: &mut Random) -> Furnace {
-    let narrow = |random: &mut Random, width: Whole| {
+    let narrow = |random: &mut Random, width: Whole, weight: Whole| {
         let lo = random.between(-12, 12);
         Column {
             lo,
             hi: lo + random.between(0, width),
             reference: random.between(-20, 20),
-            weight: random.between(1, 3),
+            weight: weight * random.between(1, 3),
         }
     };
     let a = random.between(-6_000, 6_000);
     let b = random.between(-6_000, 6_000);
-    let state = narrow(random, 20);
-    let input = narrow(random, 6);
-    // g near the size at which the rounds converge.
-    let size = (a * a + 4096 * 4096) / state.price() + b * b / input.price();
+    let weights = [(1, 1), (1, 1), (1, 1), (0, 1), (1, 0), (0, 0)];
+    let (of_state, of_input) = random.choose(&weights);
+    let state = narrow(random, 20, of_state);
+    let input = narrow(random, 6, of_input);
+    // g near the size at which the rounds converge, a weight of 0 being taken for 1.
+    let price = |column: Column| 4096 * column.weight.max(1);
+    let size = (a * a + 4096 * 4096) / price(state) + b * b / price(input);
     Furnace {
         states: 1,
         inputs: 1,
@@ -52,6 +58,12 @@ fn curve(horizon: usize, random: &mut Random) -> Option<Vec<Whole>> {
     let steps = 0..horizon;
     let curve = steps.map(|_| random.between(-20, 20)).collect();
     random.one_in(2).then_some(curve)
+}
+
+/// How many columns have weight 0.
+fn zeros(furnace: &Furnace) -> usize {
+    let columns = furnace.columns.iter();
+    columns.filter(|column| column.weight == 0).count()
 }
 
 /// Is there a curve that is no hold?
@@ -119,13 +131,16 @@ fn multipliers(furnace: &Furnace, random: &mut Random) -> Vec<i32> {
 #[test]
 fn floor_is_under_every_rival() {
     let mut random = Random::new(1);
-    let (mut with_rivals, mut close) = (0, 0);
+    // By the number of columns of weight 0.
+    let mut with_rivals = [0; 3];
+    let mut close = [0; 3];
     for _ in 0..3_000 {
         let furnace = tiny(&mut random);
+        let zeros = zeros(&furnace);
         let Some(least) = least(&rivals(&furnace)) else {
             continue;
         };
-        with_rivals += 1;
+        with_rivals[zeros] += 1;
         assert!(least <= ceiling(&furnace));
         for _ in 0..60 {
             let y = multipliers(&furnace, &mut random)
@@ -135,16 +150,23 @@ fn floor_is_under_every_rival() {
             let floor = floor(&furnace, &y);
             assert!(floor <= least, "{furnace:?} {y:?}: {floor} above {least}");
             // Within a tenth of the least cost: a floor that is much too low would not be.
-            close += u32::from(least > 0 && 10 * floor >= 9 * least);
+            close[zeros] += u32::from(least > 0 && 10 * floor >= 9 * least);
         }
     }
-    assert!(with_rivals > 500 && close > 1_000, "{with_rivals} {close}");
+    assert!(
+        with_rivals.iter().all(|count| *count > 100),
+        "{with_rivals:?}"
+    );
+    // Where all weights are 0 every rival costs 0.
+    assert!(close[0] > 1_000 && close[1] > 1_000, "{close:?}");
 }
 
 #[test]
 fn shown_leaves_no_rival() {
     let mut random = Random::new(2);
-    let (mut shown, mut not_shown) = (0, 0);
+    // By the number of columns of weight 0.
+    let mut shown = [0; 3];
+    let mut not_shown = [0; 3];
     for _ in 0..3_000 {
         let furnace = tiny(&mut random);
         let tape = commands::of_furnace(&furnace, &mut random).concat();
@@ -153,23 +175,26 @@ fn shown_leaves_no_rival() {
             match judge_multipliers(&tape, &multipliers(&furnace, &mut random)) {
                 Ok(Shown) => {
                     assert!(none, "{furnace:?}");
-                    shown += 1;
+                    shown[zeros(&furnace)] += 1;
                 }
                 Err(refusal) => {
                     assert_eq!(refusal, Refusal::NotShown);
-                    not_shown += 1;
+                    not_shown[zeros(&furnace)] += 1;
                 }
             }
         }
     }
-    assert!(shown > 1_000 && not_shown > 1_000, "{shown} {not_shown}");
+    let counts = [shown, not_shown].concat();
+    assert!(counts.iter().all(|count| *count > 1_000), "{counts:?}");
 }
 
 #[test]
 fn no_rival_is_cheaper_than_an_accepted_plan_by_more_than_its_gap() {
     let mut random = Random::new(3);
-    let (mut accepted, mut ramps) = (0, 0);
-    for _ in 0..600 {
+    // By the number of columns of weight 0.
+    let mut accepted = [0; 3];
+    let mut ramps = 0;
+    for _ in 0..2_000 {
         let mut furnace = tiny(&mut random);
         furnace.wanted_gap = random.choose(&[100_000, 1_000_000, 0xffff_ffff]);
         let tape = commands::of_furnace(&furnace, &mut random).concat();
@@ -181,7 +206,7 @@ fn no_rival_is_cheaper_than_an_accepted_plan_by_more_than_its_gap() {
             let y = multipliers(&furnace, &mut random);
             match judge_plan(&tape, plan, &y) {
                 Ok(gap) => {
-                    accepted += 1;
+                    accepted[zeros(&furnace)] += 1;
                     ramps += u32::from(has_ramp(&furnace));
                     assert!(gap >= 0 && gap <= furnace.wanted_gap);
                     assert!(least >= Whole::from(*cost) - gap, "{furnace:?}");
@@ -190,15 +215,19 @@ fn no_rival_is_cheaper_than_an_accepted_plan_by_more_than_its_gap() {
             }
         }
     }
-    assert!(accepted > 300 && ramps > 100, "{accepted} {ramps}");
+    assert!(accepted.iter().all(|count| *count > 200), "{accepted:?}");
+    assert!(ramps > 300, "{ramps}");
 }
 
 #[test]
 fn only_rivals_are_accepted() {
     let mut random = Random::new(4);
-    let (mut accepted, mut refused) = (0, 0);
-    for _ in 0..400 {
+    // By the number of columns of weight 0.
+    let mut accepted = [0; 3];
+    let mut refused = [0; 3];
+    for _ in 0..500 {
         let mut furnace = tiny_of(1, &mut random);
+        let zeros = zeros(&furnace);
         furnace.wanted_gap = 0xffff_ffff;
         let tape = commands::of_furnace(&furnace, &mut random).concat();
         let rivals = rivals(&furnace);
@@ -207,60 +236,105 @@ fn only_rivals_are_accepted() {
                 let plan = vec![u, x];
                 let is_rival = rivals.iter().any(|(rival, _)| *rival == plan);
                 match judge_plan(&tape, &plan, &[0]) {
-                    Ok(_) => accepted += 1,
+                    Ok(_) => accepted[zeros] += 1,
                     Err(refusal) => {
                         let expected = [Refusal::OffModel, Refusal::OverLimit];
                         assert!(expected.contains(&refusal));
-                        refused += 1;
+                        refused[zeros] += 1;
                     }
                 }
                 assert_eq!(judge_plan(&tape, &plan, &[0]).is_ok(), is_rival);
             }
         }
     }
-    assert!(accepted > 300 && refused > 300, "{accepted} {refused}");
+    let counts = [accepted, refused].concat();
+    assert!(counts.iter().all(|count| *count > 80), "{counts:?}");
+}
+
+/// What a solve of a tiny furnace was, in words for the counts. It agrees with the list of rivals.
+fn solved(furnace: &Furnace, random: &mut Random) -> Vec<&'static str> {
+    let tape = commands::of_furnace(furnace, random).concat();
+    let rivals = rivals(furnace);
+    let mut plan = vec![0; 2 * furnace.horizon];
+    let mut y = vec![0; furnace.horizon];
+    let ramp = has_ramp(furnace);
+    let names = match solve(&tape, &mut plan, &mut y) {
+        Ok(Solved::Proved { rounds, gap, first }) => {
+            check_proved(furnace, &rivals, &plan, gap);
+            assert_eq!(first, [plan[0], 0, 0, 0]);
+            let late = rounds > 2;
+            vec![
+                ("proved, gap 0", gap == 0),
+                ("proved, gap above 0", gap > 0),
+                ("proved late", late),
+                ("proved late, a ramp", late && ramp),
+            ]
+        }
+        Ok(Solved::Impossible { .. }) => {
+            assert!(rivals.is_empty(), "{furnace:?}");
+            assert_eq!(judge_multipliers(&tape, &y), Ok(Shown));
+            vec![("impossible", true), ("impossible, a ramp", ramp)]
+        }
+        Err(refusal) => {
+            let rounds = furnace.rounds;
+            assert_eq!(refusal, Refusal::Open { rounds });
+            vec![("open", true)]
+        }
+    };
+    let names = names.into_iter().filter(|(_, is)| *is);
+    names.map(|(name, _)| name).collect()
+}
+
+/// A proved plan is a rival, and none costs less than it by more than the gap.
+fn check_proved(furnace: &Furnace, rivals: &[Rival], plan: &[i32], gap: Whole) {
+    let (_, cost) = rivals
+        .iter()
+        .find(|(rival, _)| *rival == plan)
+        .expect("a proved plan is a rival");
+    let least = least(rivals).expect("there is a rival");
+    assert!(least >= Whole::from(*cost) - gap, "{furnace:?}");
+    assert!(gap <= furnace.wanted_gap);
 }
 
 #[test]
 fn solves_agree_with_the_list_of_rivals() {
     let mut random = Random::new(5);
-    let (mut proved, mut late, mut impossible, mut open) = (0, 0, 0, 0);
-    let (mut late_ramps, mut impossible_ramps) = (0, 0);
-    for _ in 0..4_000 {
+    // By the number of columns of weight 0.
+    let mut counts: BTreeMap<&str, [u32; 3]> = BTreeMap::new();
+    for _ in 0..40_000 {
         let furnace = tiny(&mut random);
-        let tape = commands::of_furnace(&furnace, &mut random).concat();
-        let rivals = rivals(&furnace);
-        let mut plan = vec![0; 2 * furnace.horizon];
-        let mut y = vec![0; furnace.horizon];
-        match solve(&tape, &mut plan, &mut y) {
-            Ok(Solved::Proved { rounds, gap, first }) => {
-                let (_, cost) = rivals
-                    .iter()
-                    .find(|(rival, _)| *rival == plan)
-                    .expect("a proved plan is a rival");
-                let least = least(&rivals).expect("there is a rival");
-                assert!(least >= Whole::from(*cost) - gap, "{furnace:?}");
-                assert!(gap <= furnace.wanted_gap);
-                assert_eq!(first, [plan[0], 0, 0, 0]);
-                proved += 1;
-                late += u32::from(rounds > 2);
-                late_ramps += u32::from(rounds > 2 && has_ramp(&furnace));
-            }
-            Ok(Solved::Impossible { .. }) => {
-                assert!(rivals.is_empty(), "{furnace:?}");
-                assert_eq!(judge_multipliers(&tape, &y), Ok(Shown));
-                impossible += 1;
-                impossible_ramps += u32::from(has_ramp(&furnace));
-            }
-            Err(refusal) => {
-                let rounds = furnace.rounds;
-                assert_eq!(refusal, Refusal::Open { rounds });
-                open += 1;
-            }
+        for name in solved(&furnace, &mut random) {
+            counts.entry(name).or_default()[zeros(&furnace)] += 1;
         }
     }
-    let counts = [proved, late, impossible, open, late_ramps, impossible_ramps];
-    assert!(counts.iter().all(|count| *count > 50), "{counts:?}");
+    assert_eq!(counts.len(), 7, "{counts:?}");
+    let mut all = counts.values().flatten();
+    assert!(all.all(|count| *count > 10), "{counts:?}");
+}
+
+#[test]
+fn piece_and_minimiser_of_weight_0_against_all_numbers() {
+    let mut random = Random::new(7);
+    // By the sign of the slope: below 0, 0, above.
+    let mut tried = [0; 3];
+    for _ in 0..20_000 {
+        let lo = random.between(-30, 30);
+        let column = Column {
+            lo,
+            hi: lo + random.between(0, 30),
+            reference: random.between(-60, 60),
+            weight: 0,
+        };
+        let range = random.choose(&[1, 2, 600_000]);
+        let s = random.between(-range, range);
+        tried[(1 + s.signum()) as usize] += 1;
+        let least = (lo..=column.hi).map(|v| s * v).min().unwrap();
+        assert_eq!(piece(&column, s), least, "{column:?} {s}");
+        // The least number that attains it.
+        let v = (lo..=column.hi).find(|v| s * v == least);
+        assert_eq!(Some(minimiser(&column, s)), v, "{column:?} {s}");
+    }
+    assert!(tried.iter().all(|count| *count > 1_000), "{tried:?}");
 }
 
 #[test]

@@ -1,8 +1,11 @@
 //! What must hold of every generated case.
 
-use reference::generate::{case, commands, tape, Case, Kind, Random};
+use std::collections::BTreeMap;
+
+use reference::generate::{case, commands, kind, tape, Case, Kind, Random};
 use reference::model::{cost, follows_tape};
 use reference::rounds::{Candidate, Ending, Round};
+use reference::shapes::some_weight_0;
 use reference::*;
 
 /// The seeds of these tests.
@@ -59,6 +62,30 @@ fn kinds_meant_to_be_accepted_are() {
         }
     }
     assert_eq!(longest, 1_064);
+}
+
+#[test]
+fn weight_0_comes_in_a_third_of_each_kind() {
+    let mut counts: BTreeMap<Kind, (u32, u32)> = BTreeMap::new();
+    for seed in 0..4_000 {
+        let kind = kind(seed);
+        // Late ones take long to make, and damaged ones may be refused.
+        if [Kind::Late, Kind::Damaged, Kind::Noise].contains(&kind) {
+            continue;
+        }
+        let furnace = read(&tape(seed).bytes).unwrap();
+        let (all, with_zeros) = counts.entry(kind).or_default();
+        *all += 1;
+        *with_zeros += u32::from(some_weight_0(&furnace));
+    }
+    assert_eq!(counts.len(), 5);
+    for (kind, (all, with_zeros)) in counts {
+        let share = 100 * with_zeros / all;
+        assert!(
+            (25..=42).contains(&share),
+            "{kind:?}: {with_zeros} of {all}"
+        );
+    }
 }
 
 #[test]
@@ -147,8 +174,24 @@ fn hold_as_curve(furnace: &Furnace, random: &mut Random) -> Furnace {
     curved
 }
 
-#[test]
-fn a_curve_equal_to_the_hold_answers_as_the_hold() {
+/// The furnace with other references on its columns of weight 0, by command 30 and by curves that
+/// come and go.
+fn other_references(furnace: &Furnace, random: &mut Random) -> Furnace {
+    let mut other = furnace.clone();
+    for c in 0..furnace.columns.len() {
+        if furnace.columns[c].weight == 0 {
+            other.columns[c].reference = random.between(-20_000, 20_000);
+            let steps = 0..furnace.horizon;
+            let curve = steps.map(|_| random.between(-20_000, 20_000)).collect();
+            other.curves[c] = random.one_in(2).then_some(curve);
+        }
+    }
+    other
+}
+
+/// Checks that no judging or solving of generated tapes tells a furnace from what `change` makes of
+/// it. How many furnaces it changed.
+fn check_unchanged(change: fn(&Furnace, &mut Random) -> Furnace) -> u32 {
     let mut random = Random::new(7);
     let mut changed = 0;
     for seed in 0..600 {
@@ -156,10 +199,10 @@ fn a_curve_equal_to_the_hold_answers_as_the_hold() {
         let Ok(furnace) = read(&case.tape.bytes) else {
             continue;
         };
-        let curved = hold_as_curve(&furnace, &mut random);
-        changed += u32::from(curved != furnace);
-        let tape = commands::of_furnace(&curved, &mut random).concat();
-        assert_eq!(read(&tape), Ok(curved), "seed {seed}");
+        let other = change(&furnace, &mut random);
+        changed += u32::from(other != furnace);
+        let tape = commands::of_furnace(&other, &mut random).concat();
+        assert_eq!(read(&tape), Ok(other), "seed {seed}");
         for lent in &case.judged {
             let (plan, multipliers) = (&lent.plan, &lent.multipliers);
             let judged = |tape: &[u8]| {
@@ -170,24 +213,37 @@ fn a_curve_equal_to_the_hold_answers_as_the_hold() {
             };
             assert_eq!(judged(&tape), judged(&case.tape.bytes), "seed {seed}");
         }
-        let mut with_curves = case.clone();
-        with_curves.tape.bytes = tape;
-        assert_eq!(solved(&with_curves), solved(&case), "seed {seed}");
+        let mut with_other = case.clone();
+        with_other.tape.bytes = tape;
+        assert_eq!(solved(&with_other), solved(&case), "seed {seed}");
     }
+    changed
+}
+
+#[test]
+fn a_curve_equal_to_the_hold_answers_as_the_hold() {
+    let changed = check_unchanged(hold_as_curve);
     assert!(changed > 300, "{changed}");
+}
+
+#[test]
+fn the_references_of_weight_0_change_nothing() {
+    let changed = check_unchanged(other_references);
+    assert!(changed > 100, "{changed}");
 }
 
 /// Checks one round against what the paper says of it, in ways other than the rounds' own.
 fn check_round(furnace: &Furnace, round: &Round) {
     // The floor without its last term is the least of K + sum of y × e over the limits. Step
-    // 2's numbers are within half a unit of that least: P / 4 each, and rounding.
+    // 2's numbers are within half a unit of that least: P / 4 each, and rounding. At weight 0 they
+    // are just there.
     let (mut products, mut size, mut slack) = (0, 0, 0);
     for k in 0..furnace.horizon {
         for i in 0..furnace.states {
             products += round.y_tilde[k][i] * round.residuals[k][i];
             size += round.y_tilde[k][i].abs();
         }
-        for column in &furnace.columns {
+        for column in furnace.columns.iter().filter(|column| column.weight > 0) {
             slack += column.price() / 4 + 1;
         }
     }

@@ -154,7 +154,7 @@ fn refusal_4_before_5() {
     all_refused(ONE, 4, &[("21 01 00 FF 7F", 4), ("21 00 01 FF 7F", 4)]);
     all_refused(ONE, 4, &[("22 01 FF FF FF 7F", 4), ("40 01 FF 7F", 4)]);
     all_refused(ONE, 4, &[("30 02 01 00 00 00 00 00 01", 4)]);
-    all_refused(ONE, 4, &[("30 02 00 00 00 00 00 00 00", 4)]);
+    all_refused(ONE, 4, &[("30 02 00 00 00 00 21 4E 00", 4)]);
 }
 
 #[test]
@@ -203,8 +203,8 @@ fn refusal_5_columns_and_search() {
         "30 01 00 00 00 00 DF B1 01", // r −20,001
         "30 00 01 00 00 00 00 00 01", // lo 1, hi 0
         "30 01 00 00 FF FF 00 00 01", // lo 0, hi −1
-        "30 00 00 00 00 00 00 00 00", // weight 0
-        "30 01 00 00 00 00 00 00 00", // weight 0
+        "30 00 00 00 00 00 21 4E 00", // r 20,001, weight 0
+        "30 01 01 00 00 00 00 00 00", // lo 1, hi 0, weight 0
     ];
     for column in columns {
         all_refused(ONE, 5, &[(column, 4)]);
@@ -224,7 +224,7 @@ fn refusal_5_columns_and_search() {
 fn refusal_5_before_6() {
     all_refused(ONE, 5, &[("20 00 00 00 00 20 00 00 01 40", 9)]);
     all_refused(ONE, 5, &[("40 00 00 00 40 00 21 4E", 8)]);
-    all_refused(F_FRONT, 5, &[("30 00 00 00 00 00 00 00 00", 36)]);
+    all_refused(F_FRONT, 5, &[("30 00 00 00 00 00 21 4E 00", 36)]);
     let twice = "50 01 00 01 00 00 00 00 00 50 00 00 01 00 00 00 00 00";
     all_refused(ONE, 5, &[(twice, 13)]);
 }
@@ -243,6 +243,7 @@ fn refusal_6_twice() {
     );
     all_refused(F_FRONT, 6, &[("30 00 18 FC E8 03 6E 00 01", 36)]);
     all_refused(F_FRONT, 6, &[("30 01 00 00 00 00 00 00 01", 36)]);
+    all_refused(F_FRONT, 6, &[("30 00 00 00 00 00 00 00 00", 36)]);
     all_refused(F_FRONT, 6, &[("40 00 64 00", 36), ("40 00 00 00 FF", 36)]);
     // A 0 that was given counts.
     all_refused(ONE, 6, &[("20 00 00 00 00 20 00 00 00 00", 9)]);

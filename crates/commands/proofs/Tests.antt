@@ -1,4 +1,4 @@
--- Laws about commands: one that is cut or whole, the indexes of an entry that is not beyond the size, and places that FF asks for.
+-- Laws about commands: one that is cut or whole, the indexes of an entry that is not beyond the size, and that FF asks for command 50.
 use Prim.Native.Nat.{ℕ, _+_, _-_, _<_, _≤_}
 use mathlib.Core.Path.{_≡_, ap}
 use mathlib.Core.Bool.{Bool, true, false, _||_, or-true}
@@ -6,7 +6,7 @@ use mathlib.Core.List.{List, [], _∷_}
 use native.Mathlib.Omega.{arith}
 use lib.Dec.{leb}
 use lib.ListN.{length}
-use borrow.Author.Tests.{lt-ltb, le-leb, lt-leb, leb-false}
+use borrow.Author.Tests.{le-leb, lt-leb, leb-false}
 use Rattle.integer.proofs.Tests.{none}
 use Rattle.commands.specs.declared.Command.{Command}
 use Rattle.commands.specs.declared.Command.the-variants.{Cut}
@@ -49,10 +49,6 @@ inside n m horizon (Rounds g rounds t) h e = tt
 -- ---- What FF asks for
 
 module _ (n m horizon : ℕ) (given : List Bool) where
-  pub required-column : (c : ℕ) → c < n + m → required n m horizon given (columnPlace + c) ≡ true
-  unfolding required among
-  required-column c h = rw (le-leb columnPlace (columnPlace + c) (omega arith), lt-ltb (columnPlace + c - columnPlace) (n + m) (omega arith))
-
   pub required-rounds : required n m horizon given roundsPlace ≡ true
   unfolding required among
   required-rounds = ap (λ (b : Bool). b || onCurve n m horizon given roundsPlace) (or-true (among columnPlace (n + m) roundsPlace || among startPlace n roundsPlace))

@@ -108,11 +108,11 @@ beyond n m horizon (Reference c k r) = leb (n + m) c || leb horizon k
 beyond n m horizon (Start i v) = leb n i
 beyond n m horizon (Rounds g rounds t) = false
 
--- lo, hi, r -20,000 to 20,000, lo ≤ hi, h 1 to 255
+-- lo, hi, r -20,000 to 20,000, lo ≤ hi; h 0 to 255 (document 02, request 4), which is every byte
 unfoldable pub wrongColumn : ℤ → ℤ → ℤ → ℤ → Bool
 wrongColumn lo hi r h =
     exceeding mostNumber lo || exceeding mostNumber hi || exceeding mostNumber r
-    || ltZ hi lo || outside (pos 1) (pos mostWeight) h
+    || ltZ hi lo || outside (pos 0) (pos mostWeight) h
 
 -- an operand outside its range, or lo > hi
 unfoldable pub wrong : Entry → Bool

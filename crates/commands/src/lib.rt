@@ -173,7 +173,7 @@ fn is_wrong_column(low: i64, high: i64, reference: i64, weight: i64) -> bool
         || is_outside(high, LEAST_NUMBER, MOST_NUMBER)
         || is_outside(reference, LEAST_NUMBER, MOST_NUMBER)
         || high < low
-        || is_outside(weight, 1, MOST_WEIGHT)
+        || is_outside(weight, 0, MOST_WEIGHT)
 }
 
 // Test 4: an index outside the size.

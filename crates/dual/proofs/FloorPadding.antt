@@ -12,8 +12,7 @@ use Rattle.integer.proofs.Sum.{sum-cong, sum-zero, sum-pad}
 use Rattle.tape.specs.declared.Tape.{Tape}
 use Rattle.tape.specs.Legal.{Legal}
 use Rattle.problem.specs.Model.{Problem, problemOf}
-use Rattle.problem.specs.Cost.{cost}
-use Rattle.problem.specs.Dual.{inputSlope, adjoint, carried, stateSlope, tilt, piece, pieces, constant, sizes, floor}
+use Rattle.problem.specs.Dual.{inputSlope, adjoint, carried, stateSlope, unweighted, piece, pieces, constant, sizes, floor}
 use Rattle.problem.proofs.Total.{total-cong}
 use Rattle.primal.specs.Terms.{TermsOf}
 use Rattle.primal.proofs.Padding.{sum-products, paddedTape, total-terms}
@@ -65,7 +64,7 @@ module _ (t : Tape) (legal : Legal t) (penalty low high reference : List ℤ) (t
   onPlaces = paddedTape t penalty low high reference
 
   pieces-padded : pieces onPlaces y ≡ pieces (problemOf t) y
-  unfolding pieces piece tilt cost
+  unfolding pieces unweighted piece
   pieces-padded =
       total-terms t legal penalty low high reference terms piece _ _ refl (λ k j _. inputSlope-none t legal y blank k j) (λ k i _. stateSlope-none t legal y blank k i)
       ∙ total-cong (t .n) (t .m) (t .horizon) _ _ _ _ (λ k j _ _. ap (piece (problemOf t .inputTerm k j)) (inputSlope-padded t legal y blank k j))

@@ -1,7 +1,7 @@
 -- Tilts and pieces of one number: how large they are, and that no step of the code that forms them passes 64 bits.
 use Prim.Native.Nat.{ℕ, _+_, _*_, _^_, _<_, _≤_}
-use mathlib.Core.Path.{_≡_, refl}
-use mathlib.Core.Bool.{Bool, true, false, cond}
+use mathlib.Core.Path.{_≡_}
+use mathlib.Core.Bool.{false}
 use native.Mathlib.Omega.{arith}
 use native.Mathlib.Nat.{le-refl}
 use lib.IntN.{ℤ, pos, negsuc, natAbs, _+ℤ_, _-ℤ_, _*ℤ_}
@@ -12,10 +12,12 @@ use Rattle.integer.proofs.Parts.{plus, times}
 use Rattle.integer.proofs.Order.{order, square-nonneg}
 use Rattle.integer.proofs.Sizes.{size-parts, size-add, size-sub, size-mul, back, back-is, Formed, formed}
 use Rattle.integer.proofs.Quotient.{quotient-most, quotient-least}
+use Rattle.integer.proofs.Tests.{by-test}
 use Rattle.commands.specs.Ranges.{mostNumber}
 use Rattle.problem.specs.Model.{Term}
 use Rattle.problem.specs.Cost.{cost}
-use Rattle.problem.specs.Dual.{conjugate, tilt, piece}
+use Rattle.problem.specs.Dual.{weightless, unweighted, conjugate, tilt, piece}
+use Rattle.problem.proofs.Piece.{conjugate-is, one-limit}
 use Rattle.primal.specs.Ranges.{Ranged}
 use Rattle.primal.proofs.TermSizes.{mostCost, Near, near, size-distance, distance, size-cost}
 use Rattle.dual.specs.Slopes.{mostSlope}
@@ -50,17 +52,16 @@ module _ {p v r : ℤ} (n : Near p v r) where
     pub size-edge : natAbs (p *ℤ ((v -ℤ r) *ℤ (v -ℤ r)) +ℤ s *ℤ v) ≤ mostPiece
     size-edge = size-add (p *ℤ ((v -ℤ r) *ℤ (v -ℤ r))) (s *ℤ v) (size-cost n) (size-mul s v h (n .number))
 
--- ---- The third piece: both tests bound s by 80000 P, and so s² / 4P by 1.6 · 10⁹ P
+-- ---- The third piece: the tests bound s by 80000 P, and so s² / 4P by 1.6 · 10⁹ P
 
 size-conjugate : (p s : ℤ) → pos 1 ≼ p → natAbs s ≤ 80000 * natAbs p → natAbs (conjugate p s) ≤ 1600000000 * natAbs p
-unfolding conjugate
 size-conjugate (pos n) s h k =
     let d = pos 4 *ℤ pos n in
     let one : pos 1 ≼ d = omega (arith, order) in
     let low = quotient-most (s *ℤ s) d (pos 0) one (omega (arith, order, square-nonneg s)) in
     let square = size-mul s s k k in
     let high = quotient-least (s *ℤ s) d (pos (1600000000 * n)) one (omega (arith, order, size-parts (s *ℤ s))) in
-    omega (arith, order, size-parts (s *ℤ s ÷ d))
+    rw (conjugate-is (pos n) s h) (omega (arith, order, size-parts (s *ℤ s ÷ d)))
 size-conjugate (negsuc n) s h k = absurd (h .le)
 
 module _ {t : Term} (g : Ranged t) (s : ℤ) where
@@ -84,28 +85,26 @@ module _ {t : Term} (g : Ranged t) (s : ℤ) where
         size-rise (near g (t .high) (g .high)),
       )
 
-  module _ (h : natAbs s ≤ 80000 * natAbs p) where
+  module _ (one : pos 1 ≼ p) (h : natAbs s ≤ 80000 * natAbs p) where
     -- what `square_quotient` requires
     pub sized : (natAbs s < 2 ^ 37) × (pos 16384 ≼ pos 4 *ℤ p) × (pos 4 *ℤ p ≼ pos 4177920)
     sized =
-        let w = g .weighed in
+        let w = g .weighed one in
         let k = g .penalty in
         (omega arith, omega (arith, order, times (pos 4) p), omega (arith, order, times (pos 4) p, size-parts p))
 
     pub size-third : natAbs (s *ℤ t .reference -ℤ conjugate p s) ≤ 3200000000 * natAbs p
     size-third =
-        let w = g .weighed in
-        omega (
-          arith,
-          size-sub (s *ℤ t .reference) (conjugate p s) (size-mul s (t .reference) h (g .reference)) (size-conjugate p s (omega (arith, order)) h),
-        )
+        omega (arith, size-sub (s *ℤ t .reference) (conjugate p s) (size-mul s (t .reference) h (g .reference)) (size-conjugate p s one h))
+
+  pub size-unweighted : natAbs (unweighted (t .low) (t .high) s) ≤ mostNumber
+  size-unweighted = one-limit (λ v. natAbs v ≤ mostNumber) (t .low) (t .high) s (g .low) (g .high)
 
   pub size-piece : natAbs s ≤ mostSlope → natAbs (piece t s) ≤ mostPiece
   unfolding piece cost
-  size-piece h = go (leZ (pos 0) (tilt t s (t .low))) (leZ (tilt t s (t .high)) (pos 0)) refl refl
-    where
-      go : (a b : Bool) → leZ (pos 0) (tilt t s (t .low)) ≡ a → leZ (tilt t s (t .high)) (pos 0) ≡ b →
-          natAbs (cond a (cost t (t .low) +ℤ s *ℤ t .low) (cond b (cost t (t .high) +ℤ s *ℤ t .high) (s *ℤ t .reference -ℤ conjugate p s))) ≤ mostPiece
-      go true b e f = size-edge (near g (t .low) (g .low)) s h
-      go false true e f = size-edge (near g (t .high) (g .high)) s h
-      go false false e f = let k = g .penalty in omega (arith, size-third (size-tested e f))
+  size-piece h =
+      let Small : ℤ → Type 0 = λ z. natAbs z ≤ mostPiece in
+      by-test Small (weightless p) (λ _. omega (arith, size-mul s (unweighted (t .low) (t .high) s) h size-unweighted))
+      (λ w. by-test Small (leZ (pos 0) (tilt t s (t .low))) (λ _. size-edge (near g (t .low) (g .low)) s h)
+      (λ e. by-test Small (leZ (tilt t s (t .high)) (pos 0)) (λ _. size-edge (near g (t .high) (g .high)) s h)
+      (λ f. let k = g .penalty in omega (arith, size-third (omega (arith, order)) (size-tested e f)))))

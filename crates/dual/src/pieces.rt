@@ -5,7 +5,7 @@ ghost use lib.IntN.{pos, natAbs, _+ℤ_, _-ℤ_, _*ℤ_};
 ghost use Rattle.integer.specs.Places.{at, Bounded};
 ghost use Rattle.integer.specs.Sum.{sum};
 ghost use Rattle.commands.specs.Ranges.{mostNumber};
-ghost use Rattle.problem.specs.Dual.{piece};
+ghost use Rattle.problem.specs.Dual.{unweighted, piece};
 ghost use Rattle.primal.specs.Padded.{termAt, termOf};
 ghost use Rattle.primal.specs.Ranges.{mostPenalty, Ranged, Tables};
 ghost use Rattle.dual.specs.Slopes.{mostSlope};
@@ -28,11 +28,25 @@ fn edge(p: i64, v: i64, r: i64, s: i64) -> i64
     cost_of(p, r, v) + s * v
 }
 
-// The piece of a plan number with slope s. The square is formed only where both tests bound s.
+// The number of a column of weight 0: the limit at which s v is least, lo where s is 0.
+pub fn unweighted_of(low: i64, high: i64, s: i64) -> i64
+    ensures { λ v. ⌜ v ≡ unweighted low high s ⌝ }
+{
+    if 0 <= s {
+        return low;
+    }
+    high
+}
+
+// The piece of a plan number with slope s. The square is formed, and divided, only where all three
+// tests bound s and P.
 pub fn piece_of(p: i64, low: i64, high: i64, r: i64, s: i64) -> i64
     requires { ⌜ Ranged (termOf p low high r) × (natAbs s ≤ mostSlope) ⌝ }
     ensures { λ q. ⌜ q ≡ piece (termOf p low high r) s ⌝ }
 {
+    if p <= 0 {
+        return s * unweighted_of(low, high, s);
+    }
     if 0 <= tilt_at(p, low, r, s) {
         return edge(p, low, r, s);
     }

@@ -109,6 +109,9 @@ le-by {a} {b} d h e = omega (arith, order, plus a d)
 pub diff-nonneg : {a b : ℤ} → a ≼ b → pos 0 ≼ b -ℤ a
 diff-nonneg {a} {b} h = omega (arith, order, minus b a)
 
+pub diff-nonpos : {a b : ℤ} → a ≼ b → a -ℤ b ≼ pos 0
+diff-nonpos {a} {b} h = omega (arith, order, minus a b)
+
 pub add-nonneg : {a b : ℤ} → pos 0 ≼ a → pos 0 ≼ b → pos 0 ≼ a +ℤ b
 add-nonneg {a} {b} h k = omega (arith, order, plus a b)
 

@@ -1,4 +1,5 @@
--- Laws about tests: both branches of one, chains of `||`, numbers in and outside a range, any of several, and how many of them.
+-- Laws about tests: both branches of one, chains of `||`, of two numbers whose order is known, of a number and its range, any of
+-- several, and how many of them.
 use Prim.Native.Nat.{ℕ, zero, suc, _+_, _-_, _<_, _≤_}
 use mathlib.Core.Path.{_≡_, refl, sym, _∙_, ap, ap₂}
 use mathlib.Core.Bool.{Bool, true, false, cond, _&&_, _||_, true≢false, or-true, or-false}
@@ -9,9 +10,9 @@ use native.Mathlib.Numerals.{add-one}
 use native.Mathlib.Omega.{arith}
 use lib.Dec.{ltb}
 use lib.IntN.{ℤ, pos, negℤ, natAbs}
-use lib.Signed.{ltZ}
+use lib.Signed.{leZ, ltZ}
 use borrow.Author.Tests.{lt-ltb, le-ltb}
-use Rattle.integer.specs.Order.{_≼_}
+use Rattle.integer.specs.Order.{_≼_, _≺_}
 use Rattle.integer.specs.Tests.{outside, any, count}
 use Rattle.integer.proofs.Order.{order}
 use Rattle.integer.proofs.Sizes.{size-by, size-parts}
@@ -49,18 +50,30 @@ none a (b ∷ l) e = let o = none (a || b) l e in both a (o .0) (o .1)
     both true e n = absurd (true≢false e)
     both false e n = (refl, (e, n))
 
+-- ---- The test of two numbers whose order is known
+
+is-true : (test : Bool) → (test ≡ false → ⊥) → test ≡ true
+is-true true n = refl
+is-true false n = absurd (n refl)
+
+is-false : (test : Bool) → (test ≡ true → ⊥) → test ≡ false
+is-false true n = absurd (n refl)
+is-false false n = refl
+
+pub not-less : (a b : ℤ) → b ≼ a → ltZ a b ≡ false
+not-less a b h = is-false (ltZ a b) (λ e. omega (arith, order))
+
+pub at-most : (a b : ℤ) → a ≼ b → leZ a b ≡ true
+at-most a b h = is-true (leZ a b) (λ e. omega (arith, order))
+
+pub not-at-most : (a b : ℤ) → b ≺ a → leZ a b ≡ false
+not-at-most a b h = is-false (leZ a b) (λ e. omega (arith, order))
+
 -- ---- A number in its range
 
 pub in-range : (lo hi v : ℤ) → outside lo hi v ≡ false → (lo ≼ v) × (v ≼ hi)
 unfolding outside
 in-range lo hi v e = let o = none (ltZ v lo) (ltZ hi v ∷ []) e in omega (arith, order)
-
-pub not-less : (a b : ℤ) → b ≼ a → ltZ a b ≡ false
-not-less a b h = go (ltZ a b) refl
-  where
-    go : (test : Bool) → ltZ a b ≡ test → test ≡ false
-    go true e = let z : ⊥ = omega (arith, order) in absurd z
-    go false e = refl
 
 -- and back
 pub not-outside : (lo hi v : ℤ) → (lo ≼ v) × (v ≼ hi) → outside lo hi v ≡ false

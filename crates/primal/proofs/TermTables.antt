@@ -27,37 +27,37 @@ use Rattle.primal.proofs.ProductSizes.{size-units}
 -- ---- A row's number at place c of a step
 
 module _ (n m c : ℕ) where
-  pub placed-input : c < 4 → c < m → (number : ℕ → ℤ) (blank : ℤ) → placed number n m blank c ≡ number (n + c)
+  pub placed-input : c < 4 → c < m → (number : ℕ → ℤ) → placed number n m c ≡ number (n + c)
   unfolding placed
-  placed-input h k number blank = rw (lt-ltb c 4 h, lt-ltb c m k)
+  placed-input h k number = rw (lt-ltb c 4 h, lt-ltb c m k)
 
-  pub placed-no-input : c < 4 → m ≤ c → (number : ℕ → ℤ) (blank : ℤ) → placed number n m blank c ≡ blank
+  pub placed-no-input : c < 4 → m ≤ c → (number : ℕ → ℤ) → placed number n m c ≡ pos 0
   unfolding placed
-  placed-no-input h k number blank = rw (lt-ltb c 4 h, le-ltb c m k)
+  placed-no-input h k number = rw (lt-ltb c 4 h, le-ltb c m k)
 
-  pub placed-state : 4 ≤ c → c - 4 < n → (number : ℕ → ℤ) (blank : ℤ) → placed number n m blank c ≡ number (c - 4)
+  pub placed-state : 4 ≤ c → c - 4 < n → (number : ℕ → ℤ) → placed number n m c ≡ number (c - 4)
   unfolding placed
-  placed-state h k number blank = rw (le-ltb c 4 h, lt-ltb (c - 4) n k)
+  placed-state h k number = rw (le-ltb c 4 h, lt-ltb (c - 4) n k)
 
-  pub placed-no-state : 4 ≤ c → n ≤ c - 4 → (number : ℕ → ℤ) (blank : ℤ) → placed number n m blank c ≡ blank
+  pub placed-no-state : 4 ≤ c → n ≤ c - 4 → (number : ℕ → ℤ) → placed number n m c ≡ pos 0
   unfolding placed
-  placed-no-state h k number blank = rw (le-ltb c 4 h, le-ltb (c - 4) n k)
+  placed-no-state h k number = rw (le-ltb c 4 h, le-ltb (c - 4) n k)
 
 -- where the sizes fit, only numbers of columns count
-pub placed-same : (n m c : ℕ) (f g : ℕ → ℤ) (blank : ℤ) → n ≤ 6 → m ≤ 4 → ((q : ℕ) → q < 10 → f q ≡ g q) → placed f n m blank c ≡ placed g n m blank c
-placed-same n m c f g blank a b e = go (lt-or-le c 4) (lt-or-le c m) (lt-or-le (c - 4) n)
+pub placed-same : (n m c : ℕ) (f g : ℕ → ℤ) → n ≤ 6 → m ≤ 4 → ((q : ℕ) → q < 10 → f q ≡ g q) → placed f n m c ≡ placed g n m c
+placed-same n m c f g a b e = go (lt-or-le c 4) (lt-or-le c m) (lt-or-le (c - 4) n)
   where
-    go : (c < 4) ⊎ (4 ≤ c) → (c < m) ⊎ (m ≤ c) → (c - 4 < n) ⊎ (n ≤ c - 4) → placed f n m blank c ≡ placed g n m blank c
-    go (inl x) (inl y) z = placed-input n m c x y f blank ∙ e (n + c) (omega arith) ∙ sym (placed-input n m c x y g blank)
-    go (inl x) (inr y) z = placed-no-input n m c x y f blank ∙ sym (placed-no-input n m c x y g blank)
-    go (inr x) y (inl z) = placed-state n m c x z f blank ∙ e (c - 4) (omega arith) ∙ sym (placed-state n m c x z g blank)
-    go (inr x) y (inr z) = placed-no-state n m c x z f blank ∙ sym (placed-no-state n m c x z g blank)
+    go : (c < 4) ⊎ (4 ≤ c) → (c < m) ⊎ (m ≤ c) → (c - 4 < n) ⊎ (n ≤ c - 4) → placed f n m c ≡ placed g n m c
+    go (inl x) (inl y) z = placed-input n m c x y f ∙ e (n + c) (omega arith) ∙ sym (placed-input n m c x y g)
+    go (inl x) (inr y) z = placed-no-input n m c x y f ∙ sym (placed-no-input n m c x y g)
+    go (inr x) y (inl z) = placed-state n m c x z f ∙ e (c - 4) (omega arith) ∙ sym (placed-state n m c x z g)
+    go (inr x) y (inr z) = placed-no-state n m c x z f ∙ sym (placed-no-state n m c x z g)
 
 -- ---- Ranges
 
 ranged-blank : Ranged blankTerm
 ranged-blank = record {
-  weighed = omega (arith, order);
+  weighed = λ h. omega (arith, order);
   penalty = omega arith;
   low = omega arith;
   high = omega arith;
@@ -71,9 +71,9 @@ size-reference t legal column k =
     by-test (λ z. natAbs z ≤ mostNumber) (marked (t .curves .given) (12 * column + k))
     (λ _. legal .curves .each (12 * column + k)) (λ _. legal .reference .each column)
 
-ranged-column : {t : Tape} → Legal t → (column k : ℕ) → column < t .n + t .m → Ranged (columnTerm t column k)
-ranged-column {t} legal column k h = record {
-  weighed = omega (arith, order, times (pos 4096) (at (t .weight) column), le→ (legal .weighed column h));
+ranged-column : {t : Tape} → Legal t → (column k : ℕ) → Ranged (columnTerm t column k)
+ranged-column {t} legal column k = record {
+  weighed = λ h. omega (arith, order, times (pos 4096) (at (t .weight) column), le→ (legal .weighed column));
   penalty = size-units (legal .weight) column;
   low = legal .low .each column;
   high = legal .high .each column;
@@ -84,29 +84,29 @@ ranged-column {t} legal column k h = record {
 -- ---- The four tables
 
 -- what `spread` gives: a row in every step
-abbrev Spread : Tape → List ℤ → ℤ → List ℤ → Type 0
-Spread t row blank table = Steps 10 12 (λ k. placed (at row) (t .n) (t .m) blank) table
+abbrev Spread : Tape → List ℤ → List ℤ → Type 0
+Spread t row table = Steps 10 12 (λ k. placed (at row) (t .n) (t .m)) table
 
 module _ {t : Tape} {weights penalty low high reference : List ℤ} (legal : Legal t)
-    (w : Stretch 0 10 (λ c. pos 4096 *ℤ at (t .weight) c) (replicate 10 (pos 0)) weights) (p : Spread t weights (pos 4096) penalty)
-    (l : Spread t (t .low) (pos 0) low) (h : Spread t (t .high) (pos 0) high)
-    (r : Steps 10 12 (λ k. placed (λ column. referenceAt t column k) (t .n) (t .m) (pos 0)) reference) where
+    (w : Stretch 0 10 (λ c. pos 4096 *ℤ at (t .weight) c) (replicate 10 (pos 0)) weights) (p : Spread t weights penalty)
+    (l : Spread t (t .low) low) (h : Spread t (t .high) high)
+    (r : Steps 10 12 (λ k. placed (λ column. referenceAt t column k) (t .n) (t .m)) reference) where
   abbrev term : ℕ → ℕ → Term
   term k c = termAt penalty low high reference (10 * k + c)
 
   placed-term : (k c : ℕ) → k < 12 → c < 10 →
-      term k c ≡ termOf (placed (at weights) (t .n) (t .m) (pos 4096) c) (placed (at (t .low)) (t .n) (t .m) (pos 0) c)
-      (placed (at (t .high)) (t .n) (t .m) (pos 0) c) (placed (λ column. referenceAt t column k) (t .n) (t .m) (pos 0) c)
+      term k c ≡ termOf (placed (at weights) (t .n) (t .m) c) (placed (at (t .low)) (t .n) (t .m) c)
+      (placed (at (t .high)) (t .n) (t .m) c) (placed (λ column. referenceAt t column k) (t .n) (t .m) c)
   placed-term k c a b = rw (p .each k c a b, l .each k c a b, h .each k c a b, r .each k c a b)
 
   -- what `placed` is at c, of every row, gives the term
   column-term : (k c q : ℕ) → k < 12 → c < 10 → q < 10 →
-      ((x : ℕ → ℤ) (blank : ℤ) → placed x (t .n) (t .m) blank c ≡ x q) → term k c ≡ columnTerm t q k
+      ((x : ℕ → ℤ) → placed x (t .n) (t .m) c ≡ x q) → term k c ≡ columnTerm t q k
   column-term k c q a b d e =
-      placed-term k c a b ∙ rw (e (at weights) (pos 4096) ∙ fill-at w q d, e (at (t .low)) (pos 0), e (at (t .high)) (pos 0), e (λ column. referenceAt t column k) (pos 0))
+      placed-term k c a b ∙ rw (e (at weights) ∙ fill-at w q d, e (at (t .low)), e (at (t .high)), e (λ column. referenceAt t column k))
 
-  blank-term : (k c : ℕ) → k < 12 → c < 10 → ((x : ℕ → ℤ) (blank : ℤ) → placed x (t .n) (t .m) blank c ≡ blank) → term k c ≡ blankTerm
-  blank-term k c a b e = placed-term k c a b ∙ rw (e (at weights) (pos 4096), e (at (t .low)) (pos 0), e (at (t .high)) (pos 0), e (λ column. referenceAt t column k) (pos 0))
+  blank-term : (k c : ℕ) → k < 12 → c < 10 → ((x : ℕ → ℤ) → placed x (t .n) (t .m) c ≡ pos 0) → term k c ≡ blankTerm
+  blank-term k c a b e = placed-term k c a b ∙ rw (e (at weights), e (at (t .low)), e (at (t .high)), e (λ column. referenceAt t column k))
 
   input : (k c : ℕ) → k < 12 → c < t .m → term k c ≡ columnTerm t (t .n + c) k
   input k c a b =
@@ -127,9 +127,9 @@ module _ {t : Tape} {weights penalty low high reference : List ℤ} (legal : Leg
   ranged k c a b = go (lt-or-le c 4) (lt-or-le c (t .m)) (lt-or-le (c - 4) (t .n))
     where
       go : (c < 4) ⊎ (4 ≤ c) → (c < t .m) ⊎ (t .m ≤ c) → (c - 4 < t .n) ⊎ (t .n ≤ c - 4) → Ranged (term k c)
-      go (inl x) (inl y) z = subst⁻¹ Ranged (input k c a y) (ranged-column legal (t .n + c) k (omega arith))
+      go (inl x) (inl y) z = subst⁻¹ Ranged (input k c a y) (ranged-column legal (t .n + c) k)
       go (inl x) (inr y) z = subst⁻¹ Ranged (no-input k c a y x) ranged-blank
-      go (inr x) y (inl z) = subst⁻¹ Ranged (state k c a x z) (ranged-column legal (c - 4) k (omega arith))
+      go (inr x) y (inl z) = subst⁻¹ Ranged (state k c a x z) (ranged-column legal (c - 4) k)
       go (inr x) y (inr z) = subst⁻¹ Ranged (no-state k c a x b z) ranged-blank
 
   pub terms-are : TermsOf t penalty low high reference

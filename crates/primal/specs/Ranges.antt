@@ -23,9 +23,9 @@ mostSum = 10 * (mostEntry * mostNumber) + mostForcing
 abbrev pub mostResidual : ℕ
 mostResidual = mostSum + 4096 * mostNumber
 
--- P from 4096 on, h being from 1; lo, hi and r in their ranges, lo ≤ hi.
+-- P is 4096 h, so from 4096 on where it is not 0; lo, hi and r in their ranges, lo ≤ hi.
 pub record Ranged (t : Term) : Type 0 where
-  pub weighed : pos 4096 ≼ t .penalty
+  pub weighed : pos 1 ≼ t .penalty → pos 4096 ≼ t .penalty
   pub penalty : natAbs (t .penalty) ≤ mostPenalty
   pub low : natAbs (t .low) ≤ mostNumber
   pub high : natAbs (t .high) ≤ mostNumber

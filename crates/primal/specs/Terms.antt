@@ -11,14 +11,14 @@ use Rattle.primal.specs.Padded.{termOf, termAt}
 use Rattle.primal.specs.Ranges.{Tables}
 
 -- Of numbers by column, the one for place c of a step: inputs are columns n on, at places 0 to m−1; states are columns 0 on, at
--- places 4 on; `blank` beyond the sizes.
-unfoldable pub placed : (ℕ → ℤ) → ℕ → ℕ → ℤ → ℕ → ℤ
-placed number n m blank c =
-    cond (ltb c 4) (cond (ltb c m) (number (n + c)) blank) (cond (ltb (c - 4) n) (number (c - 4)) blank)
+-- places 4 on; 0 beyond the sizes.
+unfoldable pub placed : (ℕ → ℤ) → ℕ → ℕ → ℕ → ℤ
+placed number n m c =
+    cond (ltb c 4) (cond (ltb c m) (number (n + c)) (pos 0)) (cond (ltb (c - 4) n) (number (c - 4)) (pos 0))
 
--- Beyond the sizes: it costs nothing at 0, and its limits leave only 0.
+-- Beyond the sizes: its weight is 0, so it costs nothing, and its limits leave only 0.
 abbrev pub blankTerm : Term
-blankTerm = termOf (pos 4096) (pos 0) (pos 0) (pos 0)
+blankTerm = termOf (pos 0) (pos 0) (pos 0) (pos 0)
 
 -- The tables hold the terms of the tape's columns in every step.
 pub record TermsOf (t : Tape) (penalty low high reference : List ℤ) : Type 0 where

@@ -12,8 +12,7 @@ ghost use Rattle.primal.specs.Terms.{placed, TermsOf};
 use tape::Curves;
 use tape::Tape;
 
-// P, lo, hi and r of every plan number. Beyond the sizes lo, hi and r are 0, and P is 4096, so that
-// it may divide.
+// P, lo, hi and r of every plan number. Beyond the sizes all four are 0.
 pub struct Terms {
     pub penalty: [i64; 120],
     pub low: [i64; 120],
@@ -22,43 +21,43 @@ pub struct Terms {
 }
 
 // What a row of numbers by column has for place c of a step.
-fn placed_at(row: &[i64; 10], n: usize, m: usize, blank: i64, c: usize) -> i64
+fn placed_at(row: &[i64; 10], n: usize, m: usize, c: usize) -> i64
     requires { ⌜ (n ≤ 6) × (m ≤ 4) ⌝ }
-    ensures { λ r. ⌜ r ≡ placed (at (now (row .entry))) n m blank c ⌝ }
+    ensures { λ r. ⌜ r ≡ placed (at (now (row .entry))) n m c ⌝ }
 {
     if c < 4 {
         if c < m {
             return row[n + c];
         }
-        return blank;
+        return 0;
     }
     if c - 4 < n {
         return row[c - 4];
     }
-    blank
+    0
 }
 
 // Puts a row of numbers by column into a step of a table.
-fn put_row(table: &mut [i64; 120], row: &[i64; 10], n: usize, m: usize, blank: i64, k: usize)
+fn put_row(table: &mut [i64; 120], row: &[i64; 10], n: usize, m: usize, k: usize)
     requires { ⌜ (n ≤ 6) × (m ≤ 4) × (k < 12) × (length (now table) ≡ 120) ⌝ }
-    ensures { λ _. ⌜ Stretch (10 * k) 10 (placed (at (now (row .entry))) n m blank) (now (table .entry)) (now (table .exit)) ⌝ }
+    ensures { λ _. ⌜ Stretch (10 * k) 10 (placed (at (now (row .entry))) n m) (now (table .entry)) (now (table .exit)) ⌝ }
 {
     let mut c: usize = 0;
     while c < 10 {
-        table[10 * k + c] = placed_at(row, n, m, blank, c);
+        table[10 * k + c] = placed_at(row, n, m, c);
         c += 1;
     }
 }
 
 // The same row in every step.
-fn spread(row: &[i64; 10], n: usize, m: usize, blank: i64) -> [i64; 120]
+fn spread(row: &[i64; 10], n: usize, m: usize) -> [i64; 120]
     requires { ⌜ (n ≤ 6) × (m ≤ 4) ⌝ }
-    ensures { λ r. ⌜ Steps 10 12 (λ k. placed (at (now (row .entry))) n m blank) r ⌝ }
+    ensures { λ r. ⌜ Steps 10 12 (λ k. placed (at (now (row .entry))) n m) r ⌝ }
 {
     let mut table = [0i64; 120];
     let mut k: usize = 0;
     while k < 12 {
-        put_row(&mut table, row, n, m, blank, k);
+        put_row(&mut table, row, n, m, k);
         k += 1;
     }
     table
@@ -91,13 +90,13 @@ fn references_at(curves: Curves, held: &[i64; 10], k: usize) -> [i64; 10]
 // The references of every step.
 fn references(t: Tape) -> [i64; 120]
     requires { ⌜ (t .n ≤ 6) × (t .m ≤ 4) ⌝ }
-    ensures { λ r. ⌜ Steps 10 12 (λ k. placed (λ column. referenceAt t column k) (t .n) (t .m) (pos 0)) r ⌝ }
+    ensures { λ r. ⌜ Steps 10 12 (λ k. placed (λ column. referenceAt t column k) (t .n) (t .m)) r ⌝ }
 {
     let mut table = [0i64; 120];
     let mut k: usize = 0;
     while k < 12 {
         let row = references_at(t.curves, &t.reference, k);
-        put_row(&mut table, &row, t.n, t.m, 0, k);
+        put_row(&mut table, &row, t.n, t.m, k);
         k += 1;
     }
     table
@@ -125,9 +124,9 @@ pub fn terms_of(t: Tape) -> Terms
     let m = t.m;
     let penalty = penalties(&t.weight);
     Terms {
-        penalty: spread(&penalty, n, m, 4096),
-        low: spread(&t.low, n, m, 0),
-        high: spread(&t.high, n, m, 0),
+        penalty: spread(&penalty, n, m),
+        low: spread(&t.low, n, m),
+        high: spread(&t.high, n, m),
         reference: references(t),
     }
 }

@@ -1,6 +1,6 @@
 -- The theorem of demand 3. For every accepted tape and any multipliers, no rival costs less than the floor: so an accepted plan's
 -- cost less its gap is at most that of every rival, and where the floor exceeds the ceiling there is no rival.
-use Prim.Native.Nat.{ℕ, _+_, _<_}
+use Prim.Native.Nat.{ℕ, _+_}
 use mathlib.Core.Path.{_≡_}
 use mathlib.Core.Bool.{true}
 use mathlib.Core.List.{List}
@@ -21,10 +21,10 @@ use Rattle.problem.proofs.Bound.{Sound, floor-below, cost-below}
 
 module _ (t : Tape) (legal : Legal t) where
   sound : Sound (problemOf t)
-  sound = record { stepped = legal .steps .0; inputs = λ k j h. from-zero (t .n + j) (omega arith); states = λ k i h. from-zero i (omega arith) }
+  sound = record { stepped = legal .steps .0; inputs = λ k j _. from-zero (t .n + j); states = λ k i _. from-zero i }
     where
-      from-zero : (c : ℕ) → c < t .n + t .m → pos 0 ≼ pos 4096 *ℤ at (t .weight) c
-      from-zero c h = let w = legal .weighed c h in omega (arith, order, times (pos 4096) (at (t .weight) c))
+      from-zero : (c : ℕ) → pos 0 ≼ pos 4096 *ℤ at (t .weight) c
+      from-zero c = let w = legal .weighed c in omega (arith, order, times (pos 4096) (at (t .weight) c))
 
   -- the floor of any multipliers is at most the cost of every rival
   pub floor-below-rivals : (y rival : List ℤ) → Rival t rival → floorOf t y ≼ costOf t rival

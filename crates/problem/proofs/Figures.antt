@@ -1,6 +1,6 @@
 -- The figures of document 01 that speak of the problem: a table of what the definitions give and what the document says. The
 -- solver's table has these rows and those of M7 and M8; the fact here is what holds a change of the problem's definitions to them.
--- Below them figures of a curve, worked out by hand.
+-- Below them figures of a curve and of weight 0, worked out by hand.
 use Prim.Native.Nat.{ℕ}
 use mathlib.Core.Path.{_≡_, refl}
 use mathlib.Core.Bool.{cond}
@@ -17,20 +17,20 @@ use Rattle.tape.specs.Tape.{stepReference}
 use Rattle.tape.specs.Reading.{obeySize, obeyEntry, absent, obeyEnd, obey, next, readFrom, reading}
 use Rattle.problem.specs.Model.{problemOf, planOf, multipliersOf, stateAt, modelSum, rounded, sumAt}
 use Rattle.problem.specs.Cost.{total, cost, planCost, costOf}
-use Rattle.problem.specs.Dual.{inputSlope, adjoint, carried, stateSlope, conjugate, tilt, piece, pieces, constant, sizes, floor, floorOf, gapOf, larger, most, ceiling, shows}
+use Rattle.problem.specs.Dual.{inputSlope, adjoint, carried, stateSlope, unweighted, conjugate, tilt, piece, pieces, constant, sizes, floor, floorOf, gapOf, larger, most, ceiling, shows}
 
--- tape F, with N, a curve, the state's limits and reference and the wanted gap as given
-abbrev bytesOf : ℕ → List ℕ → List ℕ → List ℕ → List ℕ
-bytesOf horizon curve state wanted =
+-- tape F, with N, a curve, the state's limits, reference and weight, the input's weight and the wanted gap as given
+abbrev bytesOf : ℕ → List ℕ → List ℕ → ℕ → ℕ → List ℕ → List ℕ
+bytesOf horizon curve state stateWeight inputWeight wanted =
     0x10 ∷ 0x01 ∷ 0x01 ∷ horizon ∷ 0x20 ∷ 0x00 ∷ 0x00 ∷ 0x00 ∷ 0x10 ∷ 0x21 ∷ 0x00 ∷ 0x00 ∷ 0x00 ∷ 0x08
     ∷ curve
     ++ 0x30 ∷ 0x00 ∷ state
-    ++ 0x01 ∷ 0x30 ∷ 0x01 ∷ 0x00 ∷ 0x00 ∷ 0x28 ∷ 0x00 ∷ 0x00 ∷ 0x00 ∷ 0x01 ∷ 0x40 ∷ 0x00 ∷ 0x64 ∷ 0x00
+    ++ stateWeight ∷ 0x30 ∷ 0x01 ∷ 0x00 ∷ 0x00 ∷ 0x28 ∷ 0x00 ∷ 0x00 ∷ 0x00 ∷ inputWeight ∷ 0x40 ∷ 0x00 ∷ 0x64 ∷ 0x00
     ∷ 0x50 ∷ 0x19 ∷ 0x00 ∷ 0x05 ∷ 0x00 ∷ wanted
     ++ 0xFF ∷ []
 
 abbrev pub bytes : List ℕ → List ℕ → List ℕ
-bytes = bytesOf 0x01 []
+bytes state = bytesOf 0x01 [] state 0x01 0x01
 
 -- limits −1,000 to 1,000, r 110
 abbrev pub wide : List ℕ
@@ -75,7 +75,7 @@ table = rows (reading (bytes wide ample) .tape) (reading (bytes narrow ample) .t
 
 -- tape F in two steps, with a curve of 110 and 130 for the state
 abbrev ramp : List ℕ
-ramp = bytesOf 0x02 (0x31 ∷ 0x00 ∷ 0x00 ∷ 0x6E ∷ 0x00 ∷ 0x31 ∷ 0x00 ∷ 0x01 ∷ 0x82 ∷ 0x00 ∷ []) wide ample
+ramp = bytesOf 0x02 (0x31 ∷ 0x00 ∷ 0x00 ∷ 0x6E ∷ 0x00 ∷ 0x31 ∷ 0x00 ∷ 0x01 ∷ 0x82 ∷ 0x00 ∷ []) wide 0x01 0x01 ample
 
 -- a plan for it
 abbrev rising : List ℤ
@@ -92,6 +92,30 @@ curveRows C =
 abbrev curveTable : List (ℤ × ℤ)
 curveTable = curveRows (reading ramp .tape)
 
-figures : map (λ f. f .0) (table ++ curveTable) ≡ map (λ f. f .1) (table ++ curveTable)
-unfolding rows curveRows unsigned signed _÷_ sum pairCommand sizeCommand driftCommand columnCommand startCommand roundsCommand decoded wrongSize beyond outside any wrongColumn wrong among curved onCurve required obeySize obeyEntry absent obeyEnd obey next readFrom reading stepReference stateAt modelSum rounded total cost planCost inputSlope adjoint carried stateSlope conjugate tilt piece pieces constant sizes floor larger most ceiling
+-- M9's tape with weight 0 for the state, then for both columns: with y = −100 the state's slope is 409,600 and its piece
+-- 409,600 · 200; the input's slope is −204,800 and its piece −2,560,000, at weight 0 −204,800 · 40; the constant is −40,960,000 and
+-- the allowance 204,800. Tape F with weight 0 for both: with y = −16 the pieces are 65,536 · −1,000 and −32,768 · 40.
+unfoldable weightlessRows : Tape → Tape → Tape → List (ℤ × ℤ)
+weightlessRows G₁ G₂ F₂ =
+    (piece (problemOf G₁ .stateTerm 0 0) (pos 409600), pos 81920000) ∷ (piece (problemOf G₁ .stateTerm 0 0) (pos 0), pos 0)
+    ∷ (piece (problemOf G₁ .stateTerm 0 0) (negsuc 409599), negsuc 122879999)
+    ∷ (floorOf G₁ (negsuc 99 ∷ []), pos 38195200) ∷ (ceiling (problemOf G₁), pos 6553600)
+    ∷ (floorOf G₂ (negsuc 99 ∷ []), pos 32563200) ∷ (ceiling (problemOf G₂), pos 0)
+    ∷ (costOf F₂ (pos 4 ∷ pos 102 ∷ []), pos 0) ∷ (gapOf F₂ (pos 4 ∷ pos 102 ∷ []) (negsuc 15 ∷ []), pos 73433088)
+    ∷ []
+
+-- tape F without a curve, with the state's limits and both weights
+abbrev pub weighted : List ℕ → ℕ → ℕ → List ℕ
+weighted state stateWeight inputWeight = bytesOf 0x01 [] state stateWeight inputWeight ample
+
+abbrev weightlessTable : List (ℤ × ℤ)
+weightlessTable =
+    weightlessRows (reading (weighted narrow 0x00 0x01) .tape) (reading (weighted narrow 0x00 0x00) .tape)
+    (reading (weighted wide 0x00 0x00) .tape)
+
+abbrev all : List (ℤ × ℤ)
+all = table ++ curveTable ++ weightlessTable
+
+figures : map (λ f. f .0) all ≡ map (λ f. f .1) all
+unfolding rows curveRows weightlessRows unsigned signed _÷_ sum pairCommand sizeCommand driftCommand columnCommand startCommand roundsCommand decoded wrongSize beyond outside any wrongColumn wrong among curved onCurve required obeySize obeyEntry absent obeyEnd obey next readFrom reading stepReference stateAt modelSum rounded total cost planCost inputSlope adjoint carried stateSlope unweighted conjugate tilt piece pieces constant sizes floor larger most ceiling
 figures = refl

@@ -31,19 +31,29 @@ stateSlope n horizon A y k i = negsuc 4095 *ℤ y k i +ℤ carried n horizon A y
 
 -- ---- Pieces: the least of P (v − r)² + s v over the whole numbers v from lo to hi, or less
 
--- s² / 4P, rounded down.
+-- P = 0: a column of weight 0 (document 02, request 4). P is never below 0.
+abbrev pub weightless : ℤ → Bool
+weightless p = leZ p (pos 0)
+
+-- The number of such a column: lo where s ≥ 0, hi otherwise.
+unfoldable pub unweighted : ℤ → ℤ → ℤ → ℤ
+unweighted lo hi s = cond (leZ (pos 0) s) lo hi
+
+-- s² / 4P, rounded down; 0 at P = 0, where no piece has it.
 unfoldable pub conjugate : ℤ → ℤ → ℤ
-conjugate p s = square s ÷ (pos 4 *ℤ p)
+conjugate p s = cond (weightless p) (pos 0) (square s ÷ (pos 4 *ℤ p))
 
 -- 2P (v − r) + s.
 unfoldable pub tilt : Term → ℤ → ℤ → ℤ
 tilt t s v = pos 2 *ℤ t .penalty *ℤ (v -ℤ t .reference) +ℤ s
 
+-- At P = 0 s × lo where s ≥ 0, s × hi otherwise; else document 01's three.
 unfoldable pub piece : Term → ℤ → ℤ
 piece t s =
-    cond (leZ (pos 0) (tilt t s (t .low))) (cost t (t .low) +ℤ s *ℤ t .low)
+    cond (weightless (t .penalty)) (s *ℤ unweighted (t .low) (t .high) s)
+    (cond (leZ (pos 0) (tilt t s (t .low))) (cost t (t .low) +ℤ s *ℤ t .low)
     (cond (leZ (tilt t s (t .high)) (pos 0)) (cost t (t .high) +ℤ s *ℤ t .high)
-    (s *ℤ t .reference -ℤ conjugate (t .penalty) s))
+    (s *ℤ t .reference -ℤ conjugate (t .penalty) s)))
 
 unfoldable pub pieces : Problem → (ℕ → ℕ → ℤ) → ℤ
 pieces q y =

@@ -17,7 +17,7 @@ use Rattle.tape.specs.Tape.{stepReference}
 use Rattle.tape.specs.Reading.{obeySize, obeyEntry, absent, obeyEnd, obey, next, readFrom, reading}
 use Rattle.problem.specs.Model.{stateAt, modelSum, rounded, residual}
 use Rattle.problem.specs.Cost.{total, cost, planCost}
-use Rattle.problem.specs.Dual.{inputSlope, adjoint, carried, stateSlope, conjugate, tilt, piece, pieces, constant, sizes, floor, larger, most, ceiling}
+use Rattle.problem.specs.Dual.{inputSlope, adjoint, carried, stateSlope, unweighted, conjugate, tilt, piece, pieces, constant, sizes, floor, larger, most, ceiling}
 use Rattle.problem.proofs.Figures.{bytes, wide, narrow, ample}
 use Rattle.steps.specs.Steps.{ahead, minimiser, modelStates, dropped, verdict, ascended}
 use Rattle.rounds.specs.Lent.{listed, joined}
@@ -50,5 +50,5 @@ table =
     ∷ []
 
 pub figures : map (λ f. f .0) table ≡ map (λ f. text (f .1)) table
-unfolding solutionOf unsigned signed _÷_ sum pairCommand sizeCommand driftCommand columnCommand startCommand roundsCommand decoded wrongSize beyond outside wrongColumn wrong among curved onCurve required obeySize obeyEntry absent obeyEnd obey next readFrom reading stepReference stateAt modelSum rounded residual total cost planCost inputSlope adjoint carried stateSlope conjugate tilt piece pieces constant sizes floor larger most ceiling limited listed joined ahead minimiser modelStates dropped verdict ascended rounds solvingOn solving duty any digits
+unfolding solutionOf unsigned signed _÷_ sum pairCommand sizeCommand driftCommand columnCommand startCommand roundsCommand decoded wrongSize beyond outside wrongColumn wrong among curved onCurve required obeySize obeyEntry absent obeyEnd obey next readFrom reading stepReference stateAt modelSum rounded residual total cost planCost inputSlope adjoint carried stateSlope unweighted conjugate tilt piece pieces constant sizes floor larger most ceiling limited listed joined ahead minimiser modelStates dropped verdict ascended rounds solvingOn solving duty any digits
 figures = refl

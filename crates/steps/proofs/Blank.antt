@@ -9,9 +9,12 @@ use Rattle.integer.specs.Order.{_≼_}
 use Rattle.integer.specs.Quotient.{_÷_}
 use Rattle.integer.proofs.Order.{order}
 use Rattle.integer.proofs.Limited.{limited-low, limited-high, size-limited}
+use Rattle.integer.proofs.Tests.{by-test}
 use Rattle.commands.specs.Ranges.{mostNumber, mostMultiplier}
 use Rattle.problem.specs.Model.{Term}
 use Rattle.problem.specs.Cost.{Within}
+use Rattle.problem.specs.Dual.{weightless}
+use Rattle.problem.proofs.Piece.{one-limit}
 use Rattle.primal.specs.Terms.{blankTerm}
 use Rattle.steps.specs.Steps.{ahead, minimiser, ascended}
 
@@ -25,11 +28,17 @@ size-ascended gain y e = size-limited (negℤ (pos mostMultiplier)) (pos mostMul
 
 pub size-minimiser : (t : Term) (s : ℤ) → natAbs (t .low) ≤ mostNumber → natAbs (t .high) ≤ mostNumber → natAbs (minimiser t s) ≤ mostNumber
 unfolding minimiser
-size-minimiser t s l h = size-limited (t .low) (t .high) _ l h
+size-minimiser t s l h =
+    by-test (λ v. natAbs v ≤ mostNumber) (weightless (t .penalty)) (λ _. one-limit (λ v. natAbs v ≤ mostNumber) (t .low) (t .high) s l h)
+    (λ _. size-limited (t .low) (t .high) _ l h)
 
 pub minimiser-within : (t : Term) (s : ℤ) → t .low ≼ t .high → Within t (minimiser t s)
 unfolding minimiser
-minimiser-within t s l = (limited-low (t .low) (t .high) _ l, limited-high (t .low) (t .high) _ l)
+minimiser-within t s l =
+    let here : t .low ≼ t .low = omega (arith, order) in
+    let there : t .high ≼ t .high = omega (arith, order) in
+    by-test (Within t) (weightless (t .penalty)) (λ _. one-limit (Within t) (t .low) (t .high) s (here, l) (l, there))
+    (λ _. (limited-low (t .low) (t .high) _ l, limited-high (t .low) (t .high) _ l))
 
 -- ---- Beyond the sizes
 

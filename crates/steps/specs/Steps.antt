@@ -10,7 +10,7 @@ use Rattle.commands.specs.Ranges.{mostMultiplier}
 use Rattle.tape.specs.declared.Tape.{Tape}
 use Rattle.problem.specs.Model.{Term, Problem, Plan, problemOf, modelSum, rounded}
 use Rattle.problem.specs.Cost.{planCost}
-use Rattle.problem.specs.Dual.{inputSlope, stateSlope, floor, shows}
+use Rattle.problem.specs.Dual.{inputSlope, stateSlope, weightless, unweighted, floor, shows}
 use Rattle.steps.specs.declared.verdict.Verdict.{Verdict}
 use Rattle.steps.specs.declared.verdict.Verdict.the-variants.{Proved, Impossible, Neither}
 
@@ -23,11 +23,12 @@ multiplier y = limited (negℤ (pos mostMultiplier)) (pos mostMultiplier) y
 unfoldable pub ahead : ℤ → ℤ → ℤ → ℤ
 ahead k y previous = multiplier (y +ℤ ((k -ℤ pos 1) *ℤ (y -ℤ previous)) ÷ (k +ℤ pos 2))
 
--- ---- 2. The number with slope s that makes its part of the Lagrangian least
+-- ---- 2. The number with slope s that makes its part of the Lagrangian least; at P = 0 by the rule of the piece
 
 unfoldable pub minimiser : Term → ℤ → ℤ
 minimiser t s =
-    limited (t .low) (t .high) ((pos 2 *ℤ t .penalty *ℤ t .reference -ℤ s +ℤ t .penalty) ÷ (pos 2 *ℤ t .penalty))
+    cond (weightless (t .penalty)) (unweighted (t .low) (t .high) s)
+    (limited (t .low) (t .high) ((pos 2 *ℤ t .penalty *ℤ t .reference -ℤ s +ℤ t .penalty) ÷ (pos 2 *ℤ t .penalty)))
 
 abbrev pub minimisers : Problem → (ℕ → ℕ → ℤ) → Plan
 minimisers q y = record {

@@ -10,6 +10,7 @@ ghost use Rattle.dual.specs.Slopes.{mostSlope};
 ghost use Rattle.steps.specs.Steps.{ahead, minimiser, ascended};
 use commands::range::LEAST_MULTIPLIER;
 use commands::range::MOST_MULTIPLIER;
+use dual::pieces::unweighted_of;
 use integer::number::limit;
 use integer::number::quotient;
 
@@ -26,11 +27,14 @@ pub fn ahead_of(k: i64, y: i64, previous: i64) -> i64
 }
 
 // The minimiser of a plan number with slope s: r less s / 2P to the nearest unit, halves up, within
-// the limits.
+// the limits; at weight 0 one of the limits.
 pub fn minimiser_of(p: i64, low: i64, high: i64, r: i64, s: i64) -> i64
     requires { ⌜ Ranged (termOf p low high r) × (natAbs s ≤ mostSlope) ⌝ }
     ensures { λ q. ⌜ q ≡ minimiser (termOf p low high r) s ⌝ }
 {
+    if p <= 0 {
+        return unweighted_of(low, high, s);
+    }
     limit(quotient(2 * p * r - s + p, 2 * p), low, high)
 }
 

@@ -1,4 +1,4 @@
--- `legal`: every accepted tape is legal. From command 10 on each command keeps `Good`; FF finds the marks, and they say the rest.
+-- `legal`: every accepted tape is legal. From command 10 on each command keeps `Good`; FF finds the mark of command 50, which says the rest.
 use Prim.Native.Nat.{ℕ, zero, suc, _+_, _*_, _^_, _<_, _≤_}
 use mathlib.Core.Path.{_≡_, refl, sym, _∙_, subst}
 use mathlib.Core.Logic.{_⊎_, inl, inr, ⊎-elim}
@@ -8,7 +8,7 @@ use native.Mathlib.Omega.{arith}
 use native.Mathlib.Decide.{ℕ-discrete}
 use borrow.Author.Tests.{ltb-false, leb-false, not-false}
 use lib.Dec.{eqb, ltb, leb}
-use lib.ListN.{length, getD, set, replicate, length-set, length-replicate, getD-replicate}
+use lib.ListN.{length, getD, set, replicate, length-set, length-replicate}
 use lib.Seq.{getD-set-same, getD-set-other}
 use lib.IntN.{ℤ, pos, negsuc, natAbs}
 use lib.Signed.{ltZ}
@@ -28,7 +28,7 @@ use Rattle.commands.specs.Format.{whole, decoded, pairCommand, sizeCommand, dri
 use Rattle.commands.specs.Format.{wrongSize, beyond, wrongColumn, wrong, placeOf}
 use Rattle.commands.specs.Marks.{statePlace, inputPlace, driftPlace, columnPlace, startPlace, roundsPlace, referencePlace, placeCount, marked}
 use Rattle.commands.specs.Required.{required}
-use Rattle.commands.proofs.Tests.{required-column, required-rounds}
+use Rattle.commands.proofs.Tests.{required-rounds}
 use Rattle.tape.specs.declared.Answer.the-variants as answer
 use Rattle.tape.specs.declared.Reading.{Reading}
 use Rattle.tape.specs.declared.Tape.{Tape}
@@ -128,13 +128,9 @@ record Columns (w : ℕ) (lo hi r h : List ℤ) : Type 0 where
   reference : Table 10 20000 (λ p. w ≤ p) r
   weight : Table 10 255 (λ p. w ≤ p) h
   ordered : (p : ℕ) → at lo p ≼ at hi p
+  weighed : (p : ℕ) → pos 0 ≼ at h p
 
--- what the marks of the columns and of command 50 say
-record Marks (w : ℕ) (h : List ℤ) (gain : ℤ) (rounds : ℕ) (wanted : ℤ) (given : List Bool) : Type 0 where
-  weighed : (p : ℕ) → p < w → marked given (columnPlace + p) ≡ true → pos 1 ≼ at h p
-  timed : marked given roundsPlace ≡ true → Timed gain rounds wanted
-
--- sizes, A, B, w, x(0), columns, references by step, marks
+-- sizes, A, B, w, x(0), columns, references by step, and command 50 where it has its mark
 data Good (t : Tape) (given : List Bool) : Type 0 where
   good : Sizes (t .n) (t .m) (t .horizon) →
       Table 36 16384 (Off 6 (t .n) (t .n)) (t .a) →
@@ -143,7 +139,7 @@ data Good (t : Tape) (given : List Bool) : Type 0 where
       Table 6 20000 (λ p. t .n ≤ p) (t .start) →
       Columns (t .n + t .m) (t .low) (t .high) (t .reference) (t .weight) →
       Table 120 20000 (Off 12 (t .n + t .m) (t .horizon)) (t .curves .reference) →
-      Marks (t .n + t .m) (t .weight) (t .gain) (t .rounds) (t .wanted) given →
+      (marked given roundsPlace ≡ true → Timed (t .gain) (t .rounds) (t .wanted)) →
       Good t given
 
 -- ---- Each command keeps it
@@ -154,45 +150,28 @@ record RightColumn (lo hi r h : ℤ) : Type 0 where
   high : natAbs hi ≤ 20000
   reference : natAbs r ≤ 20000
   ordered : lo ≼ hi
-  weight : (pos 1 ≼ h) × (h ≼ pos 255)
+  weight : (pos 0 ≼ h) × (h ≼ pos 255)
 
 right-column : (lo hi r h : ℤ) → wrongColumn lo hi r h ≡ false → RightColumn lo hi r h
 unfolding wrongColumn
 right-column lo hi r h e =
     let out = outside (negsuc 19999) (pos 20000) in
-    let o = none (out lo) (out hi ∷ out r ∷ ltZ hi lo ∷ outside (pos 1) (pos 255) h ∷ []) e in
+    let o = none (out lo) (out hi ∷ out r ∷ ltZ hi lo ∷ outside (pos 0) (pos 255) h ∷ []) e in
     record {
       low = in-size 20000 lo (o .0);
       high = in-size 20000 hi (o .1 .0);
       reference = in-size 20000 r (o .1 .1 .0);
       ordered = omega (arith, order);
-      weight = in-range (pos 1) (pos 255) h (o .1 .1 .1 .1 .0);
+      weight = in-range (pos 0) (pos 255) h (o .1 .1 .1 .1 .0);
     }
 
--- a mark that is not the new one
-earlier : (g : List Bool) (k p : ℕ) → (p ≡ k → ⊥) → marked (set g k true) p ≡ true → marked g p ≡ true
-earlier g k p n e = sym (getD-set-other g k p true false n) ∙ e
-
-module _ {w : ℕ} {h : List ℤ} {gain : ℤ} {rounds : ℕ} {wanted : ℤ} {g : List Bool} (m : Marks w h gain rounds wanted g) where
-  marks-other : (k : ℕ) → ((p : ℕ) → p < w → columnPlace + p ≡ k → ⊥) × (roundsPlace ≡ k → ⊥) → Marks w h gain rounds wanted (set g k true)
-  marks-other k n = record {
-    weighed = λ p l e. m .weighed p l (earlier g k (columnPlace + p) (n .0 p l) e);
-    timed = λ e. m .timed (earlier g k roundsPlace (n .1) e);
-  }
-
-  marks-column : (c : ℕ) (x : ℤ) → c < 10 → c < length h → pos 1 ≼ x → Marks w (set h c x) gain rounds wanted (set g (columnPlace + c) true)
-  marks-column c x n l y = record {
-    weighed = λ p b. at-stored (λ p z. marked (set g (columnPlace + c) true) (columnPlace + p) ≡ true → pos 1 ≼ z) h c p x l (λ _. y)
-        (λ d e. m .weighed p b (earlier g (columnPlace + c) (columnPlace + p) (λ q. d (omega arith)) e));
-    timed = λ e. m .timed (earlier g (columnPlace + c) roundsPlace (λ q. omega arith) e);
-  }
-
-  marks-rounds : {u v : ℤ} {r : ℕ} → w ≤ 10 → Timed u r v → Marks w h u r v (set g roundsPlace true)
-  marks-rounds n f = record { weighed = λ p l e. m .weighed p l (earlier g roundsPlace (columnPlace + p) (λ q. omega arith) e); timed = λ _. f }
+-- no other command gives 50's mark
+not-timed : (g : List Bool) {F : Type 0} (k : ℕ) → (roundsPlace ≡ k → ⊥) → (marked g roundsPlace ≡ true → F) → marked (set g k true) roundsPlace ≡ true → F
+not-timed g k n f e = f (sym (getD-set-other g k roundsPlace true false n) ∙ e)
 
 columns-stored : {w : ℕ} {low high reference weight : List ℤ} (c : ℕ) {lo hi r h : ℤ} → c < w → w ≤ 10 → RightColumn lo hi r h →
     Columns w low high reference weight → Columns w (set low c lo) (set high c hi) (set reference c r) (set weight c h)
-columns-stored {low = low} {high = high} c {lo} {hi} {r} {h} l n x k =
+columns-stored {low = low} {high = high} {weight = weight} c {lo} {hi} {r} {h} l n x k =
     let room : (c < length low) × (c < length high) = omega arith in
     record {
       low = stored c lo (k .low) (omega arith) (x .low);
@@ -202,37 +181,38 @@ columns-stored {low = low} {high = high} c {lo} {hi} {r} {h} l n x k =
       ordered = λ p.
           at-stored (λ q z. z ≼ at (set high c hi) q) low c p lo (room .0)
           (rw (getD-set-same high c hi (pos 0) (room .1)) (x .ordered)) (λ d. rw (getD-set-other high c p hi (pos 0) d) (k .ordered p));
+      weighed = λ p. at-stored (λ _ z. pos 0 ≼ z) weight c p h (omega arith) (x .weight .0) (λ _. k .weighed p);
     }
 
 entry-kept : {t : Tape} {g : List Bool} (e : Entry) → Ranged (command.Give e) → beyond (t .n) (t .m) (t .horizon) e ≡ false → wrong e ≡ false →
     Good t g → Good (with t e) (set g (placeOf e) true)
 unfolding beyond wrong
-entry-kept {t} (State i j v) _ u r (good z a b w x c f k) =
+entry-kept {t} {g} (State i j v) _ u r (good z a b w x c f k) =
     let o = none (leb (t .n) i) (leb (t .n) j ∷ []) u in
     let h : (i < t .n) × (j < t .n) = omega (arith, leb-false) in
     let a′ = stored (6 * i + j) v a (omega arith, λ n. n i j h refl) (in-size 16384 v r) in
-    good z a′ b w x c f (marks-other k (statePlace + (6 * i + j)) (omega arith))
-entry-kept {t} (Input i j v) _ u r (good z a b w x c f k) =
+    good z a′ b w x c f (not-timed g (statePlace + (6 * i + j)) (omega arith) k)
+entry-kept {t} {g} (Input i j v) _ u r (good z a b w x c f k) =
     let o = none (leb (t .n) i) (leb (t .m) j ∷ []) u in
     let h : (i < t .n) × (j < t .m) = omega (arith, leb-false) in
     let b′ = stored (4 * i + j) v b (omega arith, λ n. n i j h refl) (in-size 16384 v r) in
-    good z a b′ w x c f (marks-other k (inputPlace + (4 * i + j)) (omega arith))
-entry-kept {t} (Drift i v) _ u r (good z a b w x c f k) =
+    good z a b′ w x c f (not-timed g (inputPlace + (4 * i + j)) (omega arith) k)
+entry-kept {t} {g} (Drift i v) _ u r (good z a b w x c f k) =
     let h = leb-false (t .n) i u in
-    good z a b (stored i v w (omega arith) (in-size 16777216 v r)) x c f (marks-other k (driftPlace + i) (omega arith))
-entry-kept {t} (Column p lo hi q h) _ u r (good z a b w x c f k) =
+    good z a b (stored i v w (omega arith) (in-size 16777216 v r)) x c f (not-timed g (driftPlace + i) (omega arith) k)
+entry-kept {t} {g} (Column p lo hi q h) _ u r (good z a b w x c f k) =
     let l = leb-false (t .n + t .m) p u in
     let y = right-column lo hi q h r in
-    good z a b w x (columns-stored p l (omega arith) y c) f (marks-column k p h (omega arith) (omega arith) (y .weight .0))
-entry-kept {t} (Reference p q v) _ u r (good z a b w x c f k) =
+    good z a b w x (columns-stored p l (omega arith) y c) f (not-timed g (columnPlace + p) (omega arith) k)
+entry-kept {t} {g} (Reference p q v) _ u r (good z a b w x c f k) =
     let o = none (leb (t .n + t .m) p) (leb (t .horizon) q ∷ []) u in
     let h : (p < t .n + t .m) × (q < t .horizon) = omega (arith, leb-false) in
     let f′ = stored (12 * p + q) v f (omega arith, λ n. n p q h refl) (in-size 20000 v r) in
-    good z a b w x c f′ (marks-other k (referencePlace + (12 * p + q)) (omega arith))
-entry-kept {t} (Start i v) _ u r (good z a b w x c f k) =
+    good z a b w x c f′ (not-timed g (referencePlace + (12 * p + q)) (omega arith) k)
+entry-kept {t} {g} (Start i v) _ u r (good z a b w x c f k) =
     let h = leb-false (t .n) i u in
-    good z a b w (stored i v x (omega arith) (in-size 20000 v r)) c f (marks-other k (startPlace + i) (omega arith))
-entry-kept (Rounds _ _ _) g _ r (good z a b w x c f k) = good z a b w x c f (marks-rounds k (omega arith) (timed g r))
+    good z a b w (stored i v x (omega arith) (in-size 20000 v r)) c f (not-timed g (startPlace + i) (omega arith) k)
+entry-kept (Rounds _ _ _) g _ r (good z a b w x c f k) = good z a b w x c f (λ _. timed g r)
 
 -- ---- Command 10: until it comes nothing is given
 
@@ -247,19 +227,15 @@ size-kept n m horizon u w (inl k) =
     let l : n + m ≤ 10 = omega (arith, ltb-false) in
     rw (k .0, k .1)
     (good (omega (arith, ltb-false)) table-none table-none table-none table-none
-    (record { low = table-none; high = table-none; reference = table-none; weight = table-none; ordered = omega (arith, order) })
-    table-none
-    (record {
-      weighed = λ p h e. absurd (true≢false (sym e ∙ getD-replicate placeCount (columnPlace + p) false false (omega arith)));
-      timed = λ e. absurd (false≢true e);
-    }))
+    (record { low = table-none; high = table-none; reference = table-none; weight = table-none; ordered = omega (arith, order); weighed = λ p. rw (zeros 10 p) (omega (arith, order)) })
+    table-none (λ e. absurd (false≢true e)))
 size-kept n m horizon u w (inr (good z _ _ _ _ _ _ _)) = let e : ⊥ = omega (arith, ltb-false) in absurd e
 
 once-sized : {t : Tape} {g : List Bool} → not (sized t) ≡ false → Kept t g → Good t g
 once-sized u (inl k) = absurd (true≢false (rw (k .0) at u))
 once-sized u (inr k) = k
 
--- ---- FF: every mark it asks for is there
+-- ---- FF: every mark that it asks for is there
 
 -- a required place that is not absent has its mark
 present : (n m horizon : ℕ) (g : List Bool) (p : ℕ) → absent n m horizon g ≡ false → p < placeCount → required n m horizon g p ≡ true → marked g p ≡ true
@@ -270,7 +246,7 @@ present n m horizon g p e h r =
 ended-legal : {t : Tape} {g : List Bool} → absent (t .n) (t .m) (t .horizon) g ≡ false → Good t g → Legal t
 ended-legal {t} {g} e (good z a b w x c f k) =
     let there = present (t .n) (t .m) (t .horizon) g in
-    let v = k .timed (there roundsPlace e (omega arith) (required-rounds (t .n) (t .m) (t .horizon) g)) in
+    let v = k (there roundsPlace e (omega arith) (required-rounds (t .n) (t .m) (t .horizon) g)) in
     record {
       states = z .states;
       inputs = z .inputs;
@@ -285,7 +261,7 @@ ended-legal {t} {g} e (good z a b w x c f k) =
       reference = c .reference .bounded;
       weight = c .weight .bounded;
       ordered = c .ordered;
-      weighed = λ p l. k .weighed p l (there (columnPlace + p) e (omega arith) (required-column (t .n) (t .m) (t .horizon) g p l));
+      weighed = c .weighed;
       gain = v .gain;
       rounds = v .rounds;
       wanted = v .wanted;

@@ -22,7 +22,7 @@ pub record Legal (t : Tape) : Type 0 where
   pub curves : Bounded mostNumber (t .curves .reference)
   pub start : Bounded mostNumber (t .start)
   pub ordered : (column : ℕ) → at (t .low) column ≼ at (t .high) column
-  pub weighed : (column : ℕ) → column < t .n + t .m → pos 1 ≼ at (t .weight) column
+  pub weighed : (column : ℕ) → pos 0 ≼ at (t .weight) column
   pub gain : (pos 1 ≼ t .gain) × (t .gain ≼ pos mostGain)
   pub rounds : (1 ≤ t .rounds) × (t .rounds ≤ mostRounds)
   pub wanted : (pos 0 ≼ t .wanted) × (t .wanted ≼ pos mostWanted)

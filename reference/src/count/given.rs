@@ -6,6 +6,7 @@ use crate::generate::{given, GivenTape};
 use crate::marks::{Place, Sizes};
 use crate::model::Furnace;
 use crate::refusal::Refusal;
+use crate::shapes;
 
 /// The heading of the answers of [`read`] to such tapes.
 pub const GIVEN: &str = "given places";
@@ -42,6 +43,12 @@ const PLACES: [&str; 7] = [
     "first step",
     "step between",
     "last step",
+];
+
+/// Counted with the shapes: accepted tapes with weights of 0.
+const WEIGHTS_0: [shapes::Shape; 2] = [
+    ("accepted, some weight 0", shapes::some_weight_0),
+    ("accepted, all weights 0", shapes::all_weights_0),
 ];
 
 /// A shape of tapes: its name, and whether a tape has it.
@@ -95,7 +102,9 @@ impl Counts {
         self.expect(GIVEN, answers(&["accepted"], &[7]));
         self.expect(MISSING, GROUPS.map(|(_, name)| name.to_string()));
         self.expect(ALONE, PLACES.map(str::to_string));
-        self.expect(RARE, SHAPES.map(|(name, _)| name.to_string()));
+        let names = SHAPES.map(|(name, _)| name);
+        let names = names.into_iter().chain(WEIGHTS_0.map(|(name, _)| name));
+        self.expect(RARE, names.map(str::to_string));
     }
 
     /// Counts an answer of [`read`] to such a tape.
@@ -110,6 +119,11 @@ impl Counts {
         }
         for (name, has) in SHAPES {
             if has(tape) {
+                self.add(RARE, name);
+            }
+        }
+        for (name, has) in WEIGHTS_0 {
+            if answer.as_ref().is_ok_and(has) {
                 self.add(RARE, name);
             }
         }

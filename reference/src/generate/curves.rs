@@ -68,7 +68,10 @@ pub(super) fn put_ramps(furnace: &mut Furnace, random: &mut Random, off_by: Whol
         let to = random.between(column.lo, column.hi);
         furnace.curves[*c] = Some(ramp(from, to, furnace.horizon));
     }
-    let path = path(furnace);
+    let path = path(furnace, |k, j| {
+        let column = furnace.input_at(k, j);
+        column.limit(column.reference)
+    });
     for i in 0..furnace.states {
         let temperatures: Vec<Whole> = path.iter().map(|x| x[i]).collect();
         make_room(furnace, random, i, &temperatures);
@@ -87,15 +90,12 @@ fn ramp(from: Whole, to: Whole, horizon: usize) -> Vec<Whole> {
     (0..horizon).map(place).collect()
 }
 
-/// x(1) to x(N) under the inputs' references.
-fn path(furnace: &Furnace) -> Vec<Vec<Whole>> {
+/// x(1) to x(N), `duty` being u(k,j).
+pub(super) fn path(furnace: &Furnace, duty: impl Fn(usize, usize) -> Whole) -> Vec<Vec<Whole>> {
     let mut x = furnace.start.clone();
     let mut path = Vec::new();
     for k in 0..furnace.horizon {
-        let inputs = (0..furnace.inputs).map(|j| furnace.input_at(k, j));
-        let u: Vec<Whole> = inputs
-            .map(|column| column.limit(column.reference))
-            .collect();
+        let u: Vec<Whole> = (0..furnace.inputs).map(|j| duty(k, j)).collect();
         let states = (0..furnace.states).map(|i| in_range(next_state(furnace, &x, &u, i)));
         x = states.collect();
         path.push(x.clone());
@@ -104,7 +104,12 @@ fn path(furnace: &Furnace) -> Vec<Vec<Whole>> {
 }
 
 /// Moves the limits of state i apart until the temperatures are well within.
-fn make_room(furnace: &mut Furnace, random: &mut Random, i: usize, temperatures: &[Whole]) {
+pub(super) fn make_room(
+    furnace: &mut Furnace,
+    random: &mut Random,
+    i: usize,
+    temperatures: &[Whole],
+) {
     let column = &mut furnace.columns[i];
     let span = (column.hi - column.lo) / 2;
     for temperature in temperatures {
@@ -115,7 +120,7 @@ fn make_room(furnace: &mut Furnace, random: &mut Random, i: usize, temperatures:
 }
 
 /// A number limited to the range of references and limits.
-fn in_range(number: Whole) -> Whole {
+pub(super) fn in_range(number: Whole) -> Whole {
     number.clamp(-NUMBER_RANGE, NUMBER_RANGE)
 }
 
@@ -133,13 +138,11 @@ mod tests {
 
     #[test]
     fn the_path_follows_the_model() {
-        // Half of the state and all of the input, which is 10 and then 40 but at most 30.
+        // Half of the state and all of the input, which is 10 and then 30.
         let mut furnace = sized(1, 1, 2);
         furnace.a[0][0] = 2048;
         furnace.b[0][0] = 4096;
         furnace.start[0] = 100;
-        furnace.columns[1].hi = 30;
-        furnace.curves[1] = Some(vec![10, 40]);
-        assert_eq!(path(&furnace), [[60], [60]]);
+        assert_eq!(path(&furnace, |k, _| [10, 30][k]), [[60], [60]]);
     }
 }

@@ -3,6 +3,7 @@
 
 use super::curves;
 use super::random::Random;
+use super::weights::{bind_states, Zeros};
 use crate::floor::Multipliers;
 use crate::model::{floor_div, Column, Furnace, Plan, Whole, UNIT};
 use crate::rounds::{run, Candidate, Outcome, Round};
@@ -215,13 +216,21 @@ pub(super) fn rest_drift(furnace: &Furnace, i: usize) -> Whole {
     drift
 }
 
+/// P of a column for the rule of g, which divides by it: a weight of 0 counts as 1. The numbers of
+/// such a column jump from end to end, and no g makes them settle; of all weights that the rule can
+/// take, 1 gives the smallest g, at which they move the multipliers least.
+fn price_for_step_size(column: &Column) -> Whole {
+    UNIT * column.weight.max(1)
+}
+
 /// The step size at which the rounds surely converge, times `numerator` / `denominator`. It is
 /// 65,536 over a bound of the largest eigenvalue of M H⁻¹ Mᵀ, where M has a row for each
-/// residual and H is diagonal with 2P; the bound is the largest sum of a row's entries.
+/// residual and H is diagonal with 2P; the bound is the largest sum of a row's entries. Where a
+/// weight is 0 nothing is sure, and [`price_for_step_size`] stands for P.
 fn tuned_step_size(furnace: &Furnace, numerator: Whole, denominator: Whole) -> Whole {
     let mut bound = 1;
     for i in 0..furnace.states {
-        let twice_price = |c: usize| 2 * furnace.columns[c].price();
+        let twice_price = |c: usize| 2 * price_for_step_size(&furnace.columns[c]);
         let mut row = UNIT * UNIT / twice_price(i);
         for q in 0..furnace.states {
             for j in 0..furnace.inputs {
@@ -287,40 +296,59 @@ pub fn proved(random: &mut Random) -> Furnace {
     tuned_to_prove(random, near_rest)
 }
 
-/// A furnace of `make` whose rounds mostly end with 'proved': T is the gap of a round of a trial.
+/// A furnace of `make` whose rounds mostly end with 'proved'. Some have weights of 0.
 pub(super) fn tuned_to_prove(
     random: &mut Random,
     make: impl Fn(&mut Random) -> Furnace,
 ) -> Furnace {
+    // Drawn once: what is harder to prove keeps its share.
+    let (zeros, binds) = (Zeros::any(random), !random.one_in(3));
     let target = random.choose(&[2, 3, 5, 10, 20, 50, 100, 200, 300, 400]);
+    let make = |random: &mut Random| {
+        let mut furnace = make(random);
+        zeros.put(&mut furnace, random);
+        if binds {
+            bind_states(&mut furnace, random);
+        }
+        furnace
+    };
     let mut furnace = make(random);
     for _attempt in 0..6 {
-        // Small steps lower the gap for more rounds.
-        let (numerator, denominator) = if target < 50 {
-            random.choose(&[(3, 1), (2, 1), (1, 1), (1, 1), (1, 2), (1, 8)])
-        } else {
-            random.choose(&[(2, 1), (1, 1), (1, 8), (1, 32), (1, 128), (1, 512)])
-        };
-        furnace.step_size = tuned_step_size(&furnace, numerator, denominator);
-        let mut records = trial(&furnace, target).records;
-        records.retain(|(_, gap)| *gap <= MOST_GAP);
-        // Mostly the last round that lowers the gap, so that many answers come late.
-        let chosen = if random.one_in(4) {
-            records.get(random.below(records.len().max(1)))
-        } else {
-            records.last()
-        };
-        if let Some((rounds, gap)) = chosen {
-            furnace.rounds = rounds_around(random, *rounds);
-            furnace.wanted_gap = *gap;
-            if random.one_in(8) {
-                furnace.wanted_gap = (*gap - 1).max(0);
-            }
+        if tune_to_prove(&mut furnace, random, target) {
             return furnace;
         }
         furnace = make(random);
     }
     furnace
+}
+
+/// Puts g, and R and T for an answer in a round of a trial of `most` rounds: T is that round's gap.
+/// False where no round has a gap that T can be.
+fn tune_to_prove(furnace: &mut Furnace, random: &mut Random, most: u32) -> bool {
+    // Small steps lower the gap for more rounds.
+    let (numerator, denominator) = if most < 50 {
+        random.choose(&[(3, 1), (2, 1), (1, 1), (1, 1), (1, 2), (1, 8)])
+    } else {
+        random.choose(&[(2, 1), (1, 1), (1, 8), (1, 32), (1, 128), (1, 512)])
+    };
+    furnace.step_size = tuned_step_size(furnace, numerator, denominator);
+    let mut records = trial(furnace, most).records;
+    records.retain(|(_, gap)| *gap <= MOST_GAP);
+    // Mostly the last round that lowers the gap, so that many answers come late.
+    let chosen = if random.one_in(4) {
+        records.get(random.below(records.len().max(1)))
+    } else {
+        records.last()
+    };
+    let Some((rounds, gap)) = chosen else {
+        return false;
+    };
+    furnace.rounds = rounds_around(random, *rounds);
+    furnace.wanted_gap = *gap;
+    if random.one_in(8) {
+        furnace.wanted_gap = (*gap - 1).max(0);
+    }
+    true
 }
 
 /// Moves the limits of one state out of reach: above the highest, or below the lowest, that the
@@ -384,17 +412,20 @@ pub fn impossible(random: &mut Random) -> Furnace {
 }
 
 /// A furnace of `make`, which is told how far out of reach it should be, whose rounds mostly end
-/// with 'impossible'.
+/// with 'impossible'. Some have weights of 0.
 pub(super) fn tuned_to_fail(
     random: &mut Random,
     make: impl Fn(&mut Random, Whole) -> Furnace,
 ) -> Furnace {
+    // Drawn once: what is harder to show keeps its share.
+    let zeros = Zeros::any(random);
     let most = random.choose(&[5, 20, 60, 150, 300]);
     let mut attempt = 0;
     loop {
         // Later attempts are further out of reach and take larger steps.
         let margin = random.choose(&[1, 4, 20, 100, 300]) << attempt;
         let mut furnace = make(random, margin);
+        zeros.put(&mut furnace, random);
         let (numerator, denominator) =
             random.choose(&[(8, 1), (4, 1), (1, 1), (1, 4), (1, 16), (1, 64)]);
         furnace.step_size = tuned_step_size(&furnace, numerator << attempt, denominator);

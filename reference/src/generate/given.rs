@@ -4,6 +4,7 @@
 use super::commands::{self, Command};
 use super::furnaces::MOST_GAP;
 use super::random::Random;
+use super::weights::zeros_one_in;
 use crate::marks::{missing, Marks, Place, Sizes};
 use crate::model::{Column, Whole};
 use crate::tape::{
@@ -24,7 +25,10 @@ pub struct GivenTape {
 impl GivenTape {
     /// A tape that gives these places.
     pub fn of(sizes: Sizes, marks: Marks, random: &mut Random) -> GivenTape {
-        let mut middle: Vec<Command> = marks.iter().map(|place| command(*place, random)).collect();
+        let zeros_one_in = zeros_one_in(random);
+        let places = marks.iter();
+        let given = places.map(|place| command(*place, zeros_one_in, random));
+        let mut middle: Vec<Command> = given.collect();
         middle.extend(some_entries(sizes, random));
         random.shuffle(&mut middle);
         let size = commands::size(sizes.states, sizes.inputs, sizes.horizon);
@@ -109,10 +113,11 @@ fn all_but_steps(sizes: Sizes) -> Vec<Place> {
     places
 }
 
-/// The command that gives a place, with any legal numbers. R is small, so that a solve is short.
-fn command(place: Place, random: &mut Random) -> Command {
+/// The command that gives a place, with any legal numbers, and weight 0 in one column in so many. R
+/// is small, so that a solve is short.
+fn command(place: Place, zeros_one_in: usize, random: &mut Random) -> Command {
     match place {
-        Place::Column(c) => commands::column(c, &column(random)),
+        Place::Column(c) => commands::column(c, &column(zeros_one_in, random)),
         Place::Start(i) => commands::start(i, within(NUMBER_RANGE, random)),
         Place::Search => commands::search(
             random.between(1, 65_535),
@@ -123,14 +128,19 @@ fn command(place: Place, random: &mut Random) -> Command {
     }
 }
 
-/// A column with any legal numbers.
-fn column(random: &mut Random) -> Column {
+/// A column with any legal numbers, its weight being 0 once in so many times.
+fn column(zeros_one_in: usize, random: &mut Random) -> Column {
     let (one, other) = (within(NUMBER_RANGE, random), within(NUMBER_RANGE, random));
+    let is_zero = random.one_in(zeros_one_in);
     Column {
         lo: one.min(other),
         hi: one.max(other),
         reference: within(NUMBER_RANGE, random),
-        weight: random.between(1, MOST_WEIGHT),
+        weight: if is_zero {
+            0
+        } else {
+            random.between(1, MOST_WEIGHT)
+        },
     }
 }
 

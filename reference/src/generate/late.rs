@@ -6,6 +6,7 @@ use super::furnaces::{
     put_near_rest, put_out_of_reach, rest_drift, rounds_around, sized, trial, MOST_GAP,
 };
 use super::random::Random;
+use super::weights::Zeros;
 use crate::floor::ceiling;
 use crate::model::{Column, Furnace, Whole, UNIT};
 use crate::rounds::{run, Round};
@@ -101,7 +102,8 @@ fn late_rounds(random: &mut Random, rounds: u32) -> u32 {
 
 /// A blank furnace with the numbers of one that comes to its best plan slowly: weights are heavy
 /// and g is small, so that the numbers of a plan hardly feel a round. The multipliers of the first
-/// state swing where `swings` says so, all others creep.
+/// state swing where `swings` says so, all others creep. Some have weights of 0, as far as these
+/// end late: the caller tries again.
 fn put_slow(mut furnace: Furnace, random: &mut Random, swings: bool) -> Furnace {
     // With a larger g `creeping` is less, which keeps the gaps of larger furnaces within T.
     furnace.step_size = if furnace.multipliers_length() > 8 {
@@ -131,6 +133,7 @@ fn put_slow(mut furnace: Furnace, random: &mut Random, swings: bool) -> Furnace 
     for (drift, disturbance) in furnace.drift.iter_mut().zip(disturbances) {
         *drift = (*drift + disturbance).clamp(-DRIFT_RANGE, DRIFT_RANGE);
     }
+    Zeros::any(random).put(&mut furnace, random);
     furnace
 }
 
@@ -192,7 +195,7 @@ fn idle(furnace: &mut Furnace) -> &mut Column {
 
 /// A blank furnace with the numbers of one out of reach, whose last input heats nothing. The
 /// slope of an input that heats nothing is always 0: its hi raises the ceiling and changes no
-/// round. Here it is as high as it can be.
+/// round. Here it is as high as it can be. Some of the others have weight 0.
 fn put_idle(blank: Furnace, random: &mut Random) -> Furnace {
     let mut furnace = put_near_rest(blank, random);
     curves::put_near_rest(&mut furnace, random);
@@ -201,6 +204,7 @@ fn put_idle(blank: Furnace, random: &mut Random) -> Furnace {
     }
     let margin = random.choose(&[1, 4, 20, 100]);
     put_out_of_reach(&mut furnace, random, margin);
+    Zeros::any(random).put(&mut furnace, random);
     *idle(&mut furnace) = Column {
         lo: -NUMBER_RANGE,
         hi: NUMBER_RANGE,

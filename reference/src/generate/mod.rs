@@ -16,6 +16,7 @@ pub mod lent;
 pub mod models;
 pub mod random;
 pub mod rare;
+mod weights;
 
 pub use entries::{EntryKind, GeneratedEntry};
 pub use given::GivenTape;
@@ -23,6 +24,7 @@ pub use lent::Lent;
 pub use models::Model;
 pub use random::Random;
 
+use self::weights::Zeros;
 use crate::model::Furnace;
 use crate::tape::read;
 
@@ -174,21 +176,23 @@ fn tape_from(random: &mut Random) -> GeneratedTape {
     GeneratedTape { kind, bytes }
 }
 
-/// A furnace of all value ranges, some with curves.
+/// A furnace of all value ranges, some with curves, some with weights of 0.
 fn plain(random: &mut Random) -> Furnace {
     let mut furnace = furnaces::plain(random);
     if curves::drawn(random) {
         curves::put_any(&mut furnace, random, furnaces::any_size);
     }
+    Zeros::any(random).put(&mut furnace, random);
     furnace
 }
 
-/// A furnace with every number at a limit of its range, some with curves.
+/// A furnace with every number at a limit of its range, some with curves, some with weights of 0.
 fn limits(random: &mut Random) -> Furnace {
     let mut furnace = furnaces::limits(random);
     if curves::drawn(random) {
         curves::put_any(&mut furnace, random, furnaces::at_end);
     }
+    Zeros::any(random).put(&mut furnace, random);
     furnace
 }
 

@@ -1,6 +1,5 @@
 use mathlib.Core.Path.{sym, _∙_}
 use native.Mathlib.Omega.{arith}
-use mir.Facts.{toZ-ofZ}
 use borrow.Author.Needs.{needs}
 use Rattle.integer.proofs.Sizes.{called}
 use Rattle.primal.proofs.TermTables.{placed-input, placed-no-input, placed-state, placed-no-state}
@@ -17,10 +16,10 @@ element-copy-out-result : tie.Need-element-copy-out-result
 element-copy-out-result c = search needs
 
 returns : tie.Need-returns
-returns c = called _ (c .result .given) ∙ sym (placed-input _ _ _ (omega arith) (omega arith) _ _)
+returns c = called _ (c .result .given) ∙ sym (placed-input _ _ _ (omega arith) (omega arith) _)
 
 returns-2 : tie.Need-returns-2
-returns-2 c = toZ-ofZ (c .before .before .fits .blank) ∙ sym (placed-no-input _ _ _ (omega arith) (omega arith) _ _)
+returns-2 c = sym (placed-no-input _ _ _ (omega arith) (omega arith) _)
 
 mul-result-2 : tie.Need-mul-result-2
 mul-result-2 c = search needs
@@ -29,10 +28,10 @@ element-copy-out-result-2 : tie.Need-element-copy-out-result-2
 element-copy-out-result-2 c = search needs
 
 returns-3 : tie.Need-returns-3
-returns-3 c = called _ (c .result2 .given) ∙ sym (placed-state _ _ _ (omega arith) (omega arith) _ _)
+returns-3 c = called _ (c .result2 .given) ∙ sym (placed-state _ _ _ (omega arith) (omega arith) _)
 
 returns-4 : tie.Need-returns-4
-returns-4 c = toZ-ofZ (c .before .before .fits .blank) ∙ sym (placed-no-state _ _ _ (omega arith) (omega arith) _ _)
+returns-4 c = sym (placed-no-state _ _ _ (omega arith) (omega arith) _)
 
 pub placed-at-spec : {M : Type 1} → statement M
 placed-at-spec =

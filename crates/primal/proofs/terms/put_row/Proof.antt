@@ -1,9 +1,6 @@
 use Prim.Native.Nat.{_*_, _-_, _≤_}
 use mathlib.Core.Path.{_≡_, _∙_}
 use native.Mathlib.Omega.{arith}
-use mir.Syntax.{w64}
-use mir.Val.{toZ}
-use mir.Facts.{toZ-ofZ}
 use borrow.Author.Needs.{needs}
 use Rattle.integer.specs.Places.{at, Stretch}
 use Rattle.integer.proofs.Places.{stretch-none, stretch-store}
@@ -13,10 +10,10 @@ use Rattle.primal.proofs.terms.put_row.Statement.{statement}
 use Rattle.primal.proofs.terms.put_row.Tie as tie
 
 abbrev Inv-loop : tie.InvT-loop
-Inv-loop table₀ row n m blank k c₀ table c = (c ≤ 10) × Stretch (10 * k) c (placed (at row) n m (toZ w64 blank)) table₀ table
+Inv-loop table₀ row n m k c₀ table c = (c ≤ 10) × Stretch (10 * k) c (placed (at row) n m) table₀ table
 
 abbrev μ-loop : tie.MeasureT-loop
-μ-loop table₀ row n m blank k c₀ table c = 10 - c
+μ-loop table₀ row n m k c₀ table c = 10 - c
 
 loop-holds : tie.Need-loop-holds Inv-loop μ-loop
 loop-holds c = (omega arith, stretch-none _ _ _)
@@ -24,14 +21,14 @@ loop-holds c = (omega arith, stretch-none _ _ _)
 placed-at-requires : tie.Need-placed-at-requires Inv-loop μ-loop
 placed-at-requires c κs = search needs
 
-mul-t10 : tie.Need-mul-t10 Inv-loop μ-loop
-mul-t10 c = search needs
+mul-t9 : tie.Need-mul-t9 Inv-loop μ-loop
+mul-t9 c = search needs
 
-add-t11 : tie.Need-add-t11 Inv-loop μ-loop
-add-t11 c = search needs
+add-t10 : tie.Need-add-t10 Inv-loop μ-loop
+add-t10 c = search needs
 
-mul-t12 : tie.Need-mul-t12 Inv-loop μ-loop
-mul-t12 c = search needs
+mul-t11 : tie.Need-mul-t11 Inv-loop μ-loop
+mul-t11 c = search needs
 
 element-set-from-table : tie.Need-element-set-from-table Inv-loop μ-loop
 element-set-from-table c = search needs
@@ -49,9 +46,7 @@ loop-again c = (
 )
 
 returns : tie.Need-returns Inv-loop μ-loop
-returns c =
-    let e : c .before .loop .c ≡ 10 = omega arith in
-    rw (e, toZ-ofZ (c .before .before .fits .blank)) at (c .before .loop .inv .1)
+returns c = let e : c .before .loop .c ≡ 10 = omega arith in rw e at (c .before .loop .inv .1)
 
 pub put-row-spec : {M : Type 1} → statement M
 put-row-spec =
@@ -61,9 +56,9 @@ put-row-spec =
     μ-loop
     loop-holds
     placed-at-requires
-    mul-t10
-    add-t11
-    mul-t12
+    mul-t9
+    add-t10
+    mul-t11
     element-set-from-table
     add-c
     loop-less

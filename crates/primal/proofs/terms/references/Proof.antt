@@ -2,7 +2,7 @@ use Prim.Native.Nat.{ℕ, _-_, _<_, _≤_}
 use mathlib.Core.Path.{_≡_, refl, _∙_}
 use native.Mathlib.Omega.{arith}
 use lib.ListN.{length}
-use lib.IntN.{ℤ, pos}
+use lib.IntN.{ℤ}
 use borrow.Author.Needs.{needs}
 use Rattle.integer.specs.Places.{at, Steps}
 use Rattle.integer.proofs.Places.{fill-at, steps-none, steps-more, stretch-cong}
@@ -15,7 +15,7 @@ use Rattle.primal.proofs.terms.references.Tie as tie
 
 -- what step k holds
 abbrev held : Tape → ℕ → ℕ → ℤ
-held t k = placed (λ column. referenceAt t column k) (t .n) (t .m) (pos 0)
+held t k = placed (λ column. referenceAt t column k) (t .n) (t .m)
 
 abbrev Inv-loop : tie.InvT-loop
 Inv-loop t table₀ k₀ table k = (k ≤ 12) × (length table ≡ 120) × Steps 10 k (held t) table
@@ -47,7 +47,7 @@ loop-less c = search needs
 loop-again : tie.Need-loop-again Inv-loop μ-loop
 loop-again c =
     let l = c .before .before .before .before .before .before .before .before .loop in
-    let stretch = stretch-cong (c .put-row .ensures) (λ q _. placed-same _ _ q _ _ _ (omega arith) (omega arith) (row-is (c .before .before .before))) in
+    let stretch = stretch-cong (c .put-row .ensures) (λ q _. placed-same _ _ q _ _ (omega arith) (omega arith) (row-is (c .before .before .before))) in
     (omega arith, c .put-row .ensures .same ∙ l .inv .1, steps-more 10 (l .k) _ _ _ (l .inv .2) stretch)
 
 returns : tie.Need-returns Inv-loop μ-loop

@@ -2,9 +2,6 @@ use Prim.Native.Nat.{_-_, _≤_}
 use mathlib.Core.Path.{_≡_, refl, _∙_}
 use native.Mathlib.Omega.{arith}
 use lib.ListN.{length}
-use mir.Syntax.{w64}
-use mir.Val.{toZ}
-use mir.Facts.{toZ-ofZ}
 use borrow.Author.Needs.{needs}
 use Rattle.integer.specs.Places.{at, Steps}
 use Rattle.integer.proofs.Places.{steps-none, steps-more}
@@ -13,10 +10,10 @@ use Rattle.primal.proofs.terms.spread.Statement.{statement}
 use Rattle.primal.proofs.terms.spread.Tie as tie
 
 abbrev Inv-loop : tie.InvT-loop
-Inv-loop row n m blank table₀ k₀ table k = (k ≤ 12) × (length table ≡ 120) × Steps 10 k (λ _. placed (at row) n m (toZ w64 blank)) table
+Inv-loop row n m table₀ k₀ table k = (k ≤ 12) × (length table ≡ 120) × Steps 10 k (λ _. placed (at row) n m) table
 
 abbrev μ-loop : tie.MeasureT-loop
-μ-loop row n m blank table₀ k₀ table k = 12 - k
+μ-loop row n m table₀ k₀ table k = 12 - k
 
 loop-holds : tie.Need-loop-holds Inv-loop μ-loop
 loop-holds c = (omega arith, refl, steps-none _ 120 _)
@@ -36,9 +33,7 @@ loop-again c =
     (omega arith, c .put-row .ensures .same ∙ l .inv .1, steps-more 10 (l .k) _ _ _ (l .inv .2) (c .put-row .ensures))
 
 returns : tie.Need-returns Inv-loop μ-loop
-returns c =
-    let e : c .before .loop .k ≡ 12 = omega arith in
-    rw (e, toZ-ofZ (c .before .before .fits .blank)) at (c .before .loop .inv .2)
+returns c = let e : c .before .loop .k ≡ 12 = omega arith in rw e at (c .before .loop .inv .2)
 
 pub spread-spec : {M : Type 1} → statement M
 spread-spec = tie.close (tie.spec Inv-loop μ-loop loop-holds put-row-requires add-k loop-less loop-again returns)

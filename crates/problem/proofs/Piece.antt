@@ -106,7 +106,9 @@ module _ (t : Term) (s v : ℤ) where
     unfolding piece
     slack-nonneg within =
         let Over : ℤ → Type 0 = λ z. pos 0 ≼ cost t v +ℤ s *ℤ v -ℤ z in
-        by-test Over (weightless p) (λ _. linear _ (least (t .low) (t .high) s v (within .0) (within .1)))
-        (λ w. by-test Over (leZ (pos 0) (tilt t s (t .low))) (λ e. from-low (t .low) (within .0) (omega (arith, order)))
-        (λ _. by-test Over (leZ (tilt t s (t .high)) (pos 0)) (λ e. from-high (t .high) (within .1) (omega (arith, order)))
+        let low = within .0 in
+        let high = within .1 in
+        by-test Over (weightless p) (λ _. linear _ (least (t .low) (t .high) s v low high))
+        (λ w. by-test Over (leZ (pos 0) (tilt t s (t .low))) (λ e. from-low _ (omega (arith, order)) (omega (arith, order)))
+        (λ _. by-test Over (leZ (tilt t s (t .high)) (pos 0)) (λ e. from-high _ (omega (arith, order)) (omega (arith, order)))
         (λ _. diff-nonneg (anywhere (omega (arith, order))))))

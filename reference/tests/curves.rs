@@ -7,7 +7,7 @@ use reference::cases::reference_numbers;
 use reference::floor::{ceiling, constant, floor, gap, pieces};
 use reference::generate::commands;
 use reference::model::{cost, Plan};
-use reference::rounds::{Candidate, Ending, Round};
+use reference::rounds::{Candidate, Ending};
 use reference::*;
 use refused::*;
 use tapes::*;
@@ -324,14 +324,6 @@ fn references_outside_the_limits() {
     let rounds = rounds_of(&tape);
     assert_eq!(rounds[0].numbers.x, [[100], [-1000], [1000]]);
     assert_eq!(rounds[0].numbers.u, [[0], [0]]);
-}
-
-/// The rounds of a tape of two steps with one state and one input.
-fn rounds_of(tape: &[u8]) -> Vec<Round> {
-    let mut rounds = Vec::new();
-    let watch = &mut |round: &Round| rounds.push(round.clone());
-    let _ = solve_traced(tape, &mut [0; 4], &mut [0; 2], watch);
-    rounds
 }
 
 #[test]

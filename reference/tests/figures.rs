@@ -4,7 +4,7 @@ mod tapes;
 
 use reference::floor::{ceiling, constant, floor, gap, input_slope, piece, pieces, state_slope};
 use reference::model::{cost, next_state, residual, rounded_state, Column, Furnace, Plan};
-use reference::rounds::{Candidate, Ending, Round};
+use reference::rounds::{Candidate, Ending};
 use reference::*;
 use tapes::*;
 
@@ -151,14 +151,6 @@ fn solve_fills_the_slices() {
     let answer = solve(&tape_m9(), &mut plan, &mut multipliers);
     assert_eq!(answer, Ok(Solved::Impossible { rounds: 2 }));
     assert_eq!((plan, multipliers), ([7, 8], [-234]));
-}
-
-/// The rounds of a tape of one step with one state and one input.
-fn rounds_of(tape: &[u8]) -> Vec<Round> {
-    let mut rounds = Vec::new();
-    let watch = &mut |round: &Round| rounds.push(round.clone());
-    let _ = solve_traced(tape, &mut [0, 0], &mut [0], watch);
-    rounds
 }
 
 #[test]

@@ -4,7 +4,7 @@ mod tapes;
 
 use reference::floor::{ceiling, floor, gap, pieces};
 use reference::model::{cost, Plan};
-use reference::rounds::{Candidate, Ending, Round};
+use reference::rounds::{Candidate, Ending};
 use reference::*;
 use tapes::*;
 
@@ -40,14 +40,6 @@ const FROM_110: &str = "6E 00 E8 03";
 
 /// 200 to 300, which is out of reach: duty 40 gives 120.
 const FROM_200: &str = "C8 00 2C 01";
-
-/// The rounds of a tape of one step with one state and one input.
-fn rounds_of(tape: &[u8]) -> Vec<Round> {
-    let mut rounds = Vec::new();
-    let watch = &mut |round: &Round| rounds.push(round.clone());
-    let _ = solve_traced(tape, &mut [0, 0], &mut [0], watch);
-    rounds
-}
 
 #[test]
 fn every_byte_is_a_weight() {

@@ -1,9 +1,11 @@
-//! Tapes that several tests use.
+//! Tapes that several tests use, and their rounds.
 #![allow(dead_code)]
 
 use reference::cases::bytes;
 use reference::generate::commands::{self, Command};
 use reference::model::Column;
+use reference::rounds::Round;
+use reference::{read, solve_traced};
 
 /// Document 01's tape F up to its command 50.
 pub const F_FRONT: &str = "10 01 01 01  20 00 00 00 10  21 00 00 00 08 \
@@ -79,4 +81,15 @@ pub fn full_commands() -> Vec<Command> {
     tape.push(commands::search(65_535, 10_000, 0xffff_ffff));
     tape.push(vec![0xff]);
     tape
+}
+
+/// The rounds of an accepted tape.
+pub fn rounds_of(tape: &[u8]) -> Vec<Round> {
+    let furnace = read(tape).expect("an accepted tape");
+    let mut plan = vec![0; furnace.plan_length()];
+    let mut multipliers = vec![0; furnace.multipliers_length()];
+    let mut rounds = Vec::new();
+    let watch = &mut |round: &Round| rounds.push(round.clone());
+    let _ = solve_traced(tape, &mut plan, &mut multipliers, watch);
+    rounds
 }

@@ -154,6 +154,7 @@ fn refusal_4_before_5() {
     all_refused(ONE, 4, &[("21 01 00 FF 7F", 4), ("21 00 01 FF 7F", 4)]);
     all_refused(ONE, 4, &[("22 01 FF FF FF 7F", 4), ("40 01 FF 7F", 4)]);
     all_refused(ONE, 4, &[("30 02 01 00 00 00 00 00 01", 4)]);
+    all_refused(ONE, 4, &[("30 02 00 00 00 00 00 00 00", 4)]);
     all_refused(ONE, 4, &[("30 02 00 00 00 00 21 4E 00", 4)]);
 }
 

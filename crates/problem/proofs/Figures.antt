@@ -105,13 +105,13 @@ weightlessRows G₁ G₂ F₂ =
     ∷ []
 
 -- tape F without a curve, with the state's limits and both weights
-abbrev pub weighted : List ℕ → ℕ → ℕ → List ℕ
-weighted state stateWeight inputWeight = bytesOf 0x01 [] state stateWeight inputWeight ample
+abbrev pub withWeights : List ℕ → ℕ → ℕ → List ℕ
+withWeights state stateWeight inputWeight = bytesOf 0x01 [] state stateWeight inputWeight ample
 
 abbrev weightlessTable : List (ℤ × ℤ)
 weightlessTable =
-    weightlessRows (reading (weighted narrow 0x00 0x01) .tape) (reading (weighted narrow 0x00 0x00) .tape)
-    (reading (weighted wide 0x00 0x00) .tape)
+    weightlessRows (reading (withWeights narrow 0x00 0x01) .tape) (reading (withWeights narrow 0x00 0x00) .tape)
+    (reading (withWeights wide 0x00 0x00) .tape)
 
 abbrev all : List (ℤ × ℤ)
 all = table ++ curveTable ++ weightlessTable

@@ -18,7 +18,7 @@ use Rattle.tape.specs.Refusals.{row, figure}
 use Rattle.problem.specs.Model.{stateAt, modelSum, rounded, residual}
 use Rattle.problem.specs.Cost.{total, cost, planCost}
 use Rattle.problem.specs.Dual.{inputSlope, adjoint, carried, stateSlope, unweighted, conjugate, tilt, piece, pieces, constant, sizes, floor, larger, most, ceiling}
-use Rattle.problem.proofs.Figures.{bytes, weighted, wide, narrow, ample, rows, table}
+use Rattle.problem.proofs.Figures.{bytes, withWeights, wide, narrow, ample, rows, table}
 use Rattle.lent.specs.Checks.{first, tested, stateCheck, stepCheck, planCheck}
 use Rattle.judge.specs.declared.Judged.{Judged}
 use Rattle.judge.specs.declared.Judged.the-variants as judgement
@@ -76,18 +76,18 @@ whole =
     ∷ []
 
 -- tapes with weight 0, worked out by hand
-abbrev weightless : List (List ℤ × List ℤ)
-weightless =
+abbrev weightlessSolves : List (List ℤ × List ℤ)
+weightlessSolves =
     -- tape F with weight 0 for both columns: every slope of round 0 is 0, and so the input is at its lower limit
-    (solve (weighted wide 0x00 0x00), pos 0 ∷ pos 1 ∷ pos 0 ∷ pos 0 ∷ pos 100 ∷ pos 0 ∷ [])
+    (solve (withWeights wide 0x00 0x00), pos 0 ∷ pos 1 ∷ pos 0 ∷ pos 0 ∷ pos 100 ∷ pos 0 ∷ [])
     -- the state from 102 on without a target: y~ is 0, −3, −6 and −10, and the fourth candidate is the first that reaches 102
-    ∷ (solve (weighted (0x66 ∷ 0x00 ∷ 0x2C ∷ 0x01 ∷ 0x00 ∷ 0x00 ∷ []) 0x00 0x01), pos 0 ∷ pos 4 ∷ pos 1024 ∷ pos 3 ∷ pos 102 ∷ negsuc 9 ∷ [])
+    ∷ (solve (withWeights (0x66 ∷ 0x00 ∷ 0x2C ∷ 0x01 ∷ 0x00 ∷ 0x00 ∷ []) 0x00 0x01), pos 0 ∷ pos 4 ∷ pos 1024 ∷ pos 3 ∷ pos 102 ∷ negsuc 9 ∷ [])
     -- M9's tape with weight 0 for the state: in round 1 the floor is 57,348,096 and the ceiling 6,553,600
-    ∷ (solve (weighted narrow 0x00 0x01), pos 0 ∷ pos 2 ∷ negsuc 155 ∷ [])
+    ∷ (solve (withWeights narrow 0x00 0x01), pos 0 ∷ pos 2 ∷ negsuc 155 ∷ [])
     ∷ []
 
 abbrev all : List (List ℤ × List ℤ)
-all = whole ++ weightless
+all = whole ++ weightlessSolves
 
 pub figures : map (λ f. f .0) all ≡ map (λ f. f .1) all
 unfolding rows unsigned signed _÷_ sum pairCommand sizeCommand driftCommand columnCommand startCommand roundsCommand decoded wrongSize beyond outside wrongColumn wrong among curved onCurve required obeySize obeyEntry absent obeyEnd obey next readFrom reading stepReference stateAt modelSum rounded residual total cost planCost inputSlope adjoint carried stateSlope unweighted conjugate tilt piece pieces constant sizes floor larger most ceiling limited any first tested stateCheck stepCheck planCheck gapWithin judgedOn judged shownOn shown listed joined ahead minimiser modelStates dropped verdict ascended rounds solvingOn solving

@@ -5,11 +5,7 @@
 #ifndef SLIP_H
 #define SLIP_H
 
-#include <inttypes.h>
-#include <stdio.h>
-#include <stdlib.h>
-
-#include "fibergravel.h"
+#include "io.h"
 
 static int32_t plan[FIBERGRAVEL_MOST_PLAN], multipliers[FIBERGRAVEL_MOST_MULTIPLIERS];
 
@@ -38,7 +34,7 @@ static void print_refusal(uint64_t code)
     if (FIBERGRAVEL_REFUSAL(code) == FIBERGRAVEL_OPEN)
         printf("open\nrounds %" PRIu64 "\n", FIBERGRAVEL_CARRIED(code));
     else
-        printf("refused %u at %" PRIu64 "\n", FIBERGRAVEL_REFUSAL(code), FIBERGRAVEL_CARRIED(code));
+        print_refused(code);
 }
 
 /* Prints the slip of a result, with m first duties. */
@@ -72,10 +68,7 @@ static void print_slip(const uint8_t *tape, size_t tape_len)
     }
     if (code)
         print_refusal(code);
-    if (fflush(stdout) != 0) {
-        perror("standard output");
-        exit(1);
-    }
+    flush_output();
 }
 
 #endif

@@ -10,29 +10,7 @@
  */
 #include "slip.h"
 
-/* No command of an accepted tape starts behind the offset of its FF, and none has more than 9 bytes: so
-   many bytes decide any tape, however much follows. */
-enum { TAPE_ROOM = FIBERGRAVEL_MOST_TAPE + 8 };
-
 static uint8_t tape[TAPE_ROOM];
-static size_t tape_len;
-
-static void fail(const char *what)
-{
-    perror(what);
-    exit(1);
-}
-
-static void read_file(const char *name)
-{
-    FILE *file = fopen(name, "rb");
-    if (!file)
-        fail(name);
-    tape_len = fread(tape, 1, TAPE_ROOM, file);
-    if (ferror(file))
-        fail(name);
-    fclose(file);
-}
 
 int main(int argc, char **argv)
 {
@@ -40,7 +18,7 @@ int main(int argc, char **argv)
         fprintf(stderr, "usage: solve TAPE\n");
         return 2;
     }
-    read_file(argv[1]);
+    size_t tape_len = read_bytes(argv[1], tape, sizeof tape);
     print_slip(tape, tape_len);
     return 0;
 }

@@ -10,13 +10,11 @@
 #define _GNU_SOURCE
 #include <errno.h>
 #include <pthread.h>
-#include <stdio.h>
-#include <stdlib.h>
 #include <string.h>
 #include <sys/mman.h>
 #include <unistd.h>
 
-#include "fibergravel.h"
+#include "io.h"
 
 /* A stack is filled with this before its thread starts: the lowest byte that differs afterwards tells
    how far down the thread went. */
@@ -27,10 +25,11 @@ static uint8_t tape[FIBERGRAVEL_MOST_TAPE + 1];
 static int32_t plan[FIBERGRAVEL_MOST_PLAN], multipliers[FIBERGRAVEL_MOST_MULTIPLIERS];
 static int64_t numbers[FIBERGRAVEL_READ_LENGTH], references[FIBERGRAVEL_READ_REFERENCES_LENGTH];
 static int64_t gap[FIBERGRAVEL_JUDGE_PLAN_LENGTH], answer[FIBERGRAVEL_SOLVE_LENGTH];
-static int64_t entry[FIBERGRAVEL_IMPORT_ENTRY_LENGTH];
+static uint8_t laboratory[FIBERGRAVEL_LABORATORY_LENGTH], service[FIBERGRAVEL_MOST_SERVICE];
+static int64_t kind[FIBERGRAVEL_RECORD_LENGTH], entry[FIBERGRAVEL_IMPORT_ENTRY_LENGTH];
 static double leftover[FIBERGRAVEL_IMPORT_LEFTOVER_LENGTH];
 static uint8_t model[FIBERGRAVEL_MOST_MODEL];
-static size_t tape_len, plan_len, multipliers_len;
+static size_t tape_len, plan_len, multipliers_len, service_len;
 
 /* A model of the largest sizes, near whole numbers. */
 enum {
@@ -59,6 +58,12 @@ static void *read_references(void *unused)
 static void *solve(void *unused)
 {
     fibergravel_solve(tape, tape_len, plan, plan_len, multipliers, multipliers_len, answer);
+    return unused;
+}
+
+static void *record(void *unused)
+{
+    fibergravel_record(tape, tape_len, laboratory, sizeof laboratory, service, service_len, kind);
     return unused;
 }
 
@@ -94,18 +99,13 @@ static const struct {
     { "read", read_tape },
     { "read_references", read_references },
     { "solve", solve },
+    { "record", record },
     { "judge_plan", judge_plan },
     { "judge_multipliers", judge_multipliers },
     { "import_entry", import_entry },
     { "import_model", import_model },
 };
 enum { THREADS = sizeof threads / sizeof threads[0] };
-
-static void fail(const char *what)
-{
-    perror(what);
-    exit(1);
-}
 
 /* The pthread calls answer an error's number. */
 static void check(int error, const char *what)
@@ -147,17 +147,12 @@ static size_t bytes_used(uint8_t *stack, void *(*body)(void *))
 
 static void read_file(const char *name)
 {
-    FILE *file = fopen(name, "rb");
-    if (!file)
-        fail(name);
-    tape_len = fread(tape, 1, sizeof tape, file);
-    if (ferror(file))
-        fail(name);
-    fclose(file);
+    tape_len = read_bytes(name, tape, sizeof tape);
     memset(numbers, 0, sizeof numbers);
     fibergravel_read(tape, tape_len, numbers);
     multipliers_len = (size_t)(numbers[FIBERGRAVEL_STEPS] * numbers[FIBERGRAVEL_STATES]);
     plan_len = multipliers_len + (size_t)(numbers[FIBERGRAVEL_STEPS] * numbers[FIBERGRAVEL_INPUTS]);
+    service_len = FIBERGRAVEL_RECORD_PLAN + 4 * (plan_len + multipliers_len);
 }
 
 static void make_model(void)

@@ -1,7 +1,8 @@
 /*
  * Fibergravel: the planning core of a sinter furnace. It reads a furnace tape, judges plans and
- * multipliers that it is shown, works out a plan with a proved gap, and turns a model in floats into
- * commands of a tape. docs/TAPE.md has the tape's format.
+ * multipliers that it is shown, works out a plan with a proved gap, writes the record of a firing for the
+ * laboratory and for the service, and turns a model in floats into commands of a tape. docs/TAPE.md has
+ * the tape's format.
  *
  * Link with libplanner.a, which `rt staticlib planner` writes to target/staticlib/. It is compiled for
  * x86-64 Linux, and needs memcpy and memset from outside and nothing else.
@@ -13,16 +14,17 @@
  * Memory. The caller owns all of it: the calls allocate nothing, keep no pointer and have no state
  * between them. So they may run on several threads at once, as long as no memory that one of them
  * writes is read or written by another at that time. What a call writes (`out`; plan and multipliers
- * of fibergravel_solve; leftover of fibergravel_import_entry) overlaps nothing else that is passed to
- * it. Lengths count elements. Pointers are aligned as their type asks, no more.
+ * of fibergravel_solve; laboratory and service of fibergravel_record; leftover of
+ * fibergravel_import_entry) overlaps nothing else that is passed to it. Lengths count elements. Pointers
+ * are aligned as their type asks, no more.
  *
  * NULL is never allowed, also not with length 0. In C++ the data() of an empty std::vector or
  * std::span may be NULL: pass the address of any object of that type in its place, with length 0.
  *
  * Stack and time. A thread with FIBERGRAVEL_STACK bytes of stack, its own start included, has room for
- * every call. Every call ends. The longest is fibergravel_solve: it enters at most the tape's R rounds,
- * at most FIBERGRAVEL_MOST_ROUNDS, and the work of a round is bounded by the tape's sizes. The other
- * calls have no rounds.
+ * every call. Every call ends. The longest are fibergravel_solve and fibergravel_record: they enter at
+ * most the tape's R rounds, at most FIBERGRAVEL_MOST_ROUNDS, and the work of a round is bounded by the
+ * tape's sizes. The other calls have no rounds.
  *
  * Floats. A double is a 64-bit float of IEEE 754, and any of them may be passed. The import calls expect
  * the processor's usual mode for floats, which rounds to nearest, keeps subnormals and does not trap; a
@@ -48,9 +50,9 @@ extern "C" {
 #endif
 
 /* The version of the calls, one number that compares: 100 times the first part plus the second. With 1.1
-   came curves, with 1.2 the imports, with 1.3 weights of 0. */
+   came curves, with 1.2 the imports, with 1.3 weights of 0, with 1.4 the record. */
 #define FIBERGRAVEL_VERSION_MAJOR 1
-#define FIBERGRAVEL_VERSION_MINOR 3
+#define FIBERGRAVEL_VERSION_MINOR 4
 #define FIBERGRAVEL_VERSION (100 * FIBERGRAVEL_VERSION_MAJOR + FIBERGRAVEL_VERSION_MINOR)
 
 /* The number of a refusal, and what it carries. */
@@ -66,6 +68,7 @@ enum {
     FIBERGRAVEL_MOST_TAPE = 1064,       /* bytes of an accepted tape */
     FIBERGRAVEL_MOST_PLAN = 120,        /* numbers of a plan */
     FIBERGRAVEL_MOST_MULTIPLIERS = 72,  /* numbers of multipliers */
+    FIBERGRAVEL_MOST_SERVICE = 787,     /* bytes of a record for the service */
     FIBERGRAVEL_MOST_MODEL = 300,       /* bytes of an imported model: 5 for each entry */
     FIBERGRAVEL_STACK = 65536           /* bytes of a stack that has room for a call */
 };
@@ -85,14 +88,16 @@ enum {
 
     /* These carry 0. */
     FIBERGRAVEL_LENGTH = 9,         /* a lent slice has not the length that the tape asks for, or, of
-                                       fibergravel_import_model, that n and m ask for */
+                                       fibergravel_import_model, that n and m ask for; or the
+                                       laboratory's has not 16 bytes */
     FIBERGRAVEL_OFF_MODEL = 10,     /* a state of the plan differs from the model */
     FIBERGRAVEL_OVER_LIMIT = 11,    /* a plan number outside lo to hi */
     FIBERGRAVEL_MULTIPLIER = 12,    /* one outside -16,777,216 to 16,777,216 */
     FIBERGRAVEL_WIDE = 13,          /* the gap is above T */
     FIBERGRAVEL_NOT_SHOWN = 14,     /* the multipliers do not show impossibility */
 
-    /* This carries R. It is an answer of fibergravel_solve as much as a refusal: there may be a plan. */
+    /* This carries R. It is an answer of fibergravel_solve as much as a refusal: there may be a plan.
+       fibergravel_record does not refuse it: there it is the kind FIBERGRAVEL_KIND_OPEN. */
     FIBERGRAVEL_OPEN = 15,          /* R rounds without 'proved' or 'impossible' */
 
     /* Of an entry in floats. These carry its count from 0, A by rows and then B by rows; 0 where it is
@@ -131,7 +136,8 @@ enum {
 /* How many numbers fibergravel_judge_plan's out has. */
 enum { FIBERGRAVEL_JUDGE_PLAN_LENGTH = 1 };
 
-/* Places of fibergravel_solve's out, how many numbers it has, and the two kinds. */
+/* Places of fibergravel_solve's out, how many numbers it has, and the kinds. The third is of
+   fibergravel_record only. */
 enum {
     FIBERGRAVEL_KIND = 0,
     FIBERGRAVEL_ENTERED = 1,        /* the rounds entered, the answering one included, 1 to R */
@@ -140,7 +146,29 @@ enum {
     FIBERGRAVEL_SOLVE_LENGTH = 7,
 
     FIBERGRAVEL_PROVED = 1,
-    FIBERGRAVEL_IMPOSSIBLE = 2
+    FIBERGRAVEL_IMPOSSIBLE = 2,
+    FIBERGRAVEL_KIND_OPEN = 3
+};
+
+/* How many numbers fibergravel_record's out has: the kind, as at place FIBERGRAVEL_KIND of a solve's. */
+enum { FIBERGRAVEL_RECORD_LENGTH = 1 };
+
+/* Places of a record's bytes, and how many of them the laboratory has; the service has all. A number of
+   several bytes has its low byte first, and signed ones are two's complement. What a record lacks keeps
+   its place, with FF in each byte. */
+enum {
+    FIBERGRAVEL_RECORD_KIND = 0,
+    FIBERGRAVEL_RECORD_DUTY_COUNT = 1,  /* m, or 0 where the record has no duties */
+    FIBERGRAVEL_RECORD_ROUNDS = 2,      /* 2 bytes, unsigned: the rounds entered, R where it is open */
+    FIBERGRAVEL_RECORD_GAP = 4,         /* 4 bytes, unsigned */
+    FIBERGRAVEL_RECORD_DUTIES = 8,      /* 4 of 2 bytes each, signed: u(0), with FF beyond m */
+    FIBERGRAVEL_LABORATORY_LENGTH = 16,
+
+    FIBERGRAVEL_RECORD_STATES = 16,     /* n */
+    FIBERGRAVEL_RECORD_INPUTS = 17,     /* m */
+    FIBERGRAVEL_RECORD_STEPS = 18,      /* N */
+    FIBERGRAVEL_RECORD_PLAN = 19        /* N * (n + m) of 4 bytes each, signed; right behind the plan
+                                           stand the multipliers, N * n of 4 bytes each, signed */
 };
 
 /* Places of fibergravel_import_entry's out, how many numbers it and leftover have, and the two kinds. */
@@ -192,6 +220,19 @@ uint64_t fibergravel_judge_multipliers(const uint8_t *tape, size_t tape_len, con
  */
 uint64_t fibergravel_solve(const uint8_t *tape, size_t tape_len, int32_t *plan, size_t plan_len,
                            int32_t *multipliers, size_t multipliers_len, int64_t out[FIBERGRAVEL_SOLVE_LENGTH]);
+
+/*
+ * Works out a plan as fibergravel_solve does, and writes the record of it for two readers: 16 bytes for
+ * the laboratory, and for the service the same 16, then n, m, N, plan and multipliers, which are
+ * 19 + 4 * N * (2 * n + m) bytes in all. out holds the kind, which is byte 0 of both.
+ * 'Proved' (kind 1) has everything; its duties are u(0), the plan's first m numbers. 'Impossible' (kind 2)
+ * has no gap, no duties and no plan. 'Open' (kind 3) has no multipliers either; it is no refusal here.
+ * Rounds and sizes are in every record. Two records have the same 16 bytes where they agree in kind,
+ * rounds, gap and duties, and only there; they have the same bytes for the service only where they are
+ * equal. Refusals 1 to 9.
+ */
+uint64_t fibergravel_record(const uint8_t *tape, size_t tape_len, uint8_t *laboratory, size_t laboratory_len,
+                            uint8_t *service, size_t service_len, int64_t out[FIBERGRAVEL_RECORD_LENGTH]);
 
 /*
  * Imports one entry a of a model. Its number is the whole number nearest to 4096 * a, halves upward. out

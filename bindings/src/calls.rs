@@ -1,4 +1,4 @@
-//! The seven calls with the numbers that they answer, one to one with C's.
+//! The eight calls with the numbers that they answer, one to one with C's.
 //!
 //! Each answers 0 where it has a result, which is then in what it was lent to write; else the
 //! refusal's number + 256 × what it carries, and then nothing that was lent has changed.
@@ -33,6 +33,15 @@ mod foreign {
             multipliers_len: usize,
             out: *mut i64,
         ) -> u64;
+        pub fn fibergravel_record(
+            tape: *const u8,
+            tape_len: usize,
+            laboratory: *mut u8,
+            laboratory_len: usize,
+            service: *mut u8,
+            service_len: usize,
+            out: *mut i64,
+        ) -> u64;
         pub fn fibergravel_import_entry(entry: f64, out: *mut i64, leftover: *mut f64) -> u64;
         pub fn fibergravel_import_model(
             n: usize,
@@ -58,6 +67,9 @@ pub const JUDGE_PLAN_LENGTH: usize = 1;
 
 /// How many numbers [`solve`] writes.
 pub const SOLVE_LENGTH: usize = 7;
+
+/// How many numbers [`record`] writes.
+pub const RECORD_LENGTH: usize = 1;
 
 /// How many whole numbers [`import_entry`] writes.
 pub const IMPORT_ENTRY_LENGTH: usize = 2;
@@ -137,6 +149,30 @@ pub fn solve(
             plan.len(),
             multipliers.as_mut_ptr(),
             multipliers.len(),
+            out.as_mut_ptr(),
+        )
+    }
+}
+
+/// Solves, and writes the record of it for both readers. `out`: the kind (1 proved, 2 impossible, 3
+/// open). Each kind fills both slices; 'open' is no refusal here.
+pub fn record(
+    tape: &[u8],
+    laboratory: &mut [u8],
+    service: &mut [u8],
+    out: &mut [i64; RECORD_LENGTH],
+) -> u64 {
+    // SAFETY: each pointer and the length after it are one slice's, the three that are written
+    // are lent mutably and so lie apart, and `out` has the place that the call writes. It keeps
+    // no pointer.
+    unsafe {
+        foreign::fibergravel_record(
+            tape.as_ptr(),
+            tape.len(),
+            laboratory.as_mut_ptr(),
+            laboratory.len(),
+            service.as_mut_ptr(),
+            service.len(),
             out.as_mut_ptr(),
         )
     }

@@ -1,7 +1,7 @@
 //! The proved sinter furnace planner for Rust programs.
 //!
-//! This crate links `libplanner.a`, which `rt staticlib planner` writes, and wraps its seven
-//! calls. Five take a tape's bytes; [`import_model`] writes the model's commands for a tape from
+//! This crate links `libplanner.a`, which `rt staticlib planner` writes, and wraps its eight
+//! calls. Six take a tape's bytes; [`import_model`] writes the model's commands for a tape from
 //! floats, and [`import_entry`] rounds a single one. Every call may be lent anything: what the
 //! papers refuse comes back as a [`Refusal`], and then no lent number has changed. The crate needs
 //! `core` only.
@@ -47,10 +47,12 @@
 extern crate std;
 
 pub mod calls;
+mod record;
 mod refusal;
 
 use core::array::from_fn;
 
+pub use record::{Duties, Kind, Multipliers, Numbers, Outcome, Plan, Record, Seen};
 pub use refusal::Refusal;
 
 /// The most states, n.
@@ -69,6 +71,10 @@ pub const MOST_PLAN: usize = MOST_STEPS * MOST_COLUMNS;
 pub const MOST_MULTIPLIERS: usize = MOST_STEPS * MOST_STATES;
 /// The most bytes of an imported model.
 pub const MOST_MODEL: usize = model_length(MOST_STATES, MOST_INPUTS);
+/// The bytes of a record for the laboratory.
+pub const LABORATORY_LENGTH: usize = 16;
+/// The most bytes of a record for the service.
+pub const MOST_SERVICE: usize = service_length(MOST_STATES, MOST_INPUTS, MOST_STEPS);
 /// The largest size of an entry of A and B, in units of 1/4096.
 const MOST_ENTRY: i64 = 16_384;
 
@@ -119,6 +125,11 @@ impl Tape {
     /// N × n, the length of the multipliers, step by step.
     pub fn multipliers_length(&self) -> usize {
         self.steps.saturating_mul(self.states)
+    }
+
+    /// How many bytes the service's form of a record of this tape has.
+    pub fn service_length(&self) -> usize {
+        service_length(self.states, self.inputs, self.steps)
     }
 
     /// The tape's numbers in the order of [`calls::read`].
@@ -362,6 +373,93 @@ pub fn solve(tape: &[u8], plan: &mut [i32], multipliers: &mut [i32]) -> Result<S
     Ok(Solved::from_numbers(out))
 }
 
+/// Solves, and writes the record of it: what the laboratory sees into `laboratory`, of
+/// [`LABORATORY_LENGTH`] bytes, and what the service sees into `service`, of
+/// [`Tape::service_length`] bytes. [`Seen::from_bytes`] and [`Record::from_bytes`] then say what
+/// they hold, and neither gives none.
+///
+/// ```
+/// use fibergravel::{read, record, Kind, Outcome, Record, Seen, LABORATORY_LENGTH, MOST_SERVICE};
+///
+/// // Document 01's tape F.
+/// let tape = [
+///     0x10, 1, 1, 1, // size
+///     0x20, 0, 0, 0x00, 0x10, // A(0,0) = 4096
+///     0x21, 0, 0, 0x00, 0x08, // B(0,0) = 2048
+///     0x30, 0, 0x18, 0xFC, 0xE8, 0x03, 0x6E, 0x00, 1, // the state: -1000 to 1000, r 110
+///     0x30, 1, 0x00, 0x00, 0x28, 0x00, 0x00, 0x00, 1, // the input: 0 to 40, r 0
+///     0x40, 0, 0x64, 0x00, // x(0) = 100
+///     0x50, 0x19, 0x00, 0x05, 0x00, 0x40, 0x9C, 0x00, 0x00, // g 25, R 5, T 40000
+///     0xFF,
+/// ];
+/// let (mut laboratory, mut service) = ([0; LABORATORY_LENGTH], [0; MOST_SERVICE]);
+/// let service = &mut service[..read(&tape)?.service_length()];
+/// assert_eq!(record(&tape, &mut laboratory, service), Ok(Kind::Proved));
+///
+/// let mut bytes = vec![
+///     1, 1, // proved, one duty
+///     0x02, 0x00, // rounds 2
+///     0x00, 0x80, 0x00, 0x00, // gap 32768
+///     0x04, 0x00, 0xFF, 0xFF, 0xFF, 0xFF, 0xFF, 0xFF, // u(0) = 4
+/// ];
+/// assert_eq!(laboratory, *bytes);
+/// let seen = Seen::from_bytes(&laboratory).expect("a record");
+/// assert_eq!(seen.to_string(), "proved: rounds 2, gap 32768, duties 4");
+///
+/// bytes.extend([
+///     1, 1, 1, // n, m, N
+///     0x04, 0x00, 0x00, 0x00, 0x66, 0x00, 0x00, 0x00, // u(0) = 4, x(1) = 102
+///     0xF0, 0xFF, 0xFF, 0xFF, // the multiplier, -16
+/// ]);
+/// assert_eq!(service, bytes);
+/// let record = Record::from_bytes(service).expect("a record");
+/// let Outcome::Proved { plan, multipliers, .. } = record.outcome else {
+///     panic!("tape F has a plan")
+/// };
+/// assert_eq!((&*plan, &*multipliers), (&[4, 102][..], &[-16][..]));
+/// assert_eq!(record.seen(), seen);
+/// # Ok::<(), fibergravel::Refusal>(())
+/// ```
+///
+/// # Errors
+///
+/// Refusals 1 to 8 of the tape, and 9 of the slices' lengths, which leave both slices as they were.
+/// 'Open' is none here: its record has R rounds.
+pub fn record(tape: &[u8], laboratory: &mut [u8], service: &mut [u8]) -> Result<Kind, Refusal> {
+    let mut out = [0; calls::RECORD_LENGTH];
+    match calls::record(tape, laboratory, service, &mut out) {
+        0 => Ok(recorded(out, laboratory, service)),
+        refused => Err(record_refusal(refused)),
+    }
+}
+
+/// The kind of the record that was written. All three places say which.
+fn recorded(numbers: [i64; calls::RECORD_LENGTH], laboratory: &[u8], service: &[u8]) -> Kind {
+    let [kind] = numbers;
+    match (Seen::from_bytes(laboratory), Record::from_bytes(service)) {
+        (Some(seen), Some(record)) if record.seen() == seen && seen.kind() as i64 == kind => {
+            seen.kind()
+        }
+        _ => wrong_library(),
+    }
+}
+
+/// The refusal of a record.
+fn record_refusal(answer: u64) -> Refusal {
+    match Refusal::from_answer(answer) {
+        Some(refusal) if refusal.number() <= 9 => refusal,
+        _ => wrong_library(),
+    }
+}
+
+/// How many bytes the service's form of a record has for n states, m inputs and N steps: the
+/// laboratory's 16, the three sizes, and 4 × N × (2n + m) for plan and multipliers.
+pub const fn service_length(states: usize, inputs: usize, steps: usize) -> usize {
+    let numbers = states.saturating_mul(2).saturating_add(inputs);
+    let bytes = steps.saturating_mul(numbers).saturating_mul(4);
+    bytes.saturating_add(LABORATORY_LENGTH + 3)
+}
+
 /// Imports one entry of a model, as the identification tool delivers it: a 64-bit float.
 ///
 /// ```
@@ -570,6 +668,56 @@ mod tests {
         assert_eq!(model_refusal(17 + 256, 2), Refusal::TooLarge { entry });
     }
 
+    /// The bytes of an open record of 1 state, 1 input and 1 step, for the service.
+    fn open() -> [u8; service_length(1, 1, 1)] {
+        let mut bytes = [0xFF; service_length(1, 1, 1)];
+        bytes[..4].copy_from_slice(&[3, 0, 5, 0]);
+        bytes[16..19].fill(1);
+        bytes
+    }
+
+    #[test]
+    fn both_readers_and_the_kind_agree() {
+        let bytes = open();
+        assert_eq!(recorded([3], &bytes[..16], &bytes), Kind::Open);
+        for kind in [0, 1, 2, 4, -1, 3 + 256] {
+            assert!(catch_unwind(|| recorded([kind], &bytes[..16], &bytes)).is_err());
+        }
+        // Another kind, other rounds, or too much for the laboratory.
+        for (place, byte, length) in [(0, 2, 16), (2, 6, 16), (0, 3, 17), (0, 3, 15)] {
+            let mut other = bytes;
+            other[place] = byte;
+            assert!(catch_unwind(|| recorded([3], &other[..length], &bytes)).is_err());
+        }
+        for length in [0, 16, 30] {
+            assert!(catch_unwind(|| recorded([3], &bytes[..16], &bytes[..length])).is_err());
+        }
+    }
+
+    #[test]
+    fn refusals_of_records() {
+        assert_eq!(record_refusal(1), Refusal::Cut { offset: 0 });
+        let offset = 1063;
+        assert_eq!(
+            record_refusal(8 + 256 * offset),
+            Refusal::Overrun { offset }
+        );
+        assert_eq!(record_refusal(9), Refusal::Length);
+        for answer in [0, 10, 14, 15 + 256, 16, 17 + 256, 18, 9 + 256, u64::MAX] {
+            assert!(catch_unwind(|| record_refusal(answer)).is_err());
+        }
+    }
+
+    #[test]
+    fn lengths_of_records() {
+        assert_eq!((service_length(1, 1, 1), MOST_SERVICE), (31, 787));
+        let tape = Tape::from_numbers(&counted());
+        assert_eq!(tape.service_length(), 19 + 4 * 3 * 4);
+        assert_eq!(service_length(usize::MAX, 0, 1), usize::MAX);
+        assert_eq!(service_length(0, usize::MAX, 1), usize::MAX);
+        assert_eq!(service_length(1, 1, usize::MAX), usize::MAX);
+    }
+
     #[test]
     fn lengths_of_models() {
         assert_eq!((model_length(1, 1), MOST_MODEL), (10, 300));
@@ -587,6 +735,7 @@ mod tests {
         assert_eq!(judge_plan(&[0xff], &[], &[]), Err(misplaced));
         assert_eq!(judge_multipliers(&[0], &[1]), Err(unknown));
         assert_eq!(solve(&[0x10], &mut [], &mut [7]), Err(cut));
+        assert_eq!(record(&[0xff], &mut [], &mut [7]), Err(misplaced));
         let sizes = import_model(usize::MAX, 0, &[], &[f64::NAN], &mut []);
         assert_eq!(sizes, Err(Refusal::ArgumentOutOfRange));
         let lengths = import_model(6, 4, &[], &[f64::NAN], &mut []);

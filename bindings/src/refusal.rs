@@ -51,7 +51,7 @@ pub enum Refusal {
         offset: u64,
     },
     /// 9: a lent slice has not the length that the sizes ask for, the tape's or those of
-    /// [`crate::import_model`].
+    /// [`crate::import_model`], or the laboratory's is not of [`crate::LABORATORY_LENGTH`] bytes.
     Length,
     /// 10: a state of the plan differs from the model.
     OffModel,
@@ -63,7 +63,8 @@ pub enum Refusal {
     Wide,
     /// 14: the multipliers do not show impossibility.
     NotShown,
-    /// 15: R rounds without 'proved' or 'impossible'. There may be a plan all the same.
+    /// 15: R rounds without 'proved' or 'impossible'. There may be a plan all the same. Of
+    /// [`crate::record()`] it is no refusal but a kind, [`crate::Kind::Open`].
     Open {
         /// The tape's R.
         rounds: u64,

@@ -1,6 +1,6 @@
 //! The header for C and this crate name the same numbers.
 
-use fibergravel::{calls, Refusal};
+use fibergravel::{calls, read, record, Kind, Outcome, Record, Refusal, Seen};
 
 const HEADER: &str = include_str!("../../include/fibergravel.h");
 
@@ -21,11 +21,14 @@ fn sizes_and_lengths() {
         ("MOST_TAPE", fibergravel::MOST_TAPE),
         ("MOST_PLAN", fibergravel::MOST_PLAN),
         ("MOST_MULTIPLIERS", fibergravel::MOST_MULTIPLIERS),
+        ("MOST_SERVICE", fibergravel::MOST_SERVICE),
         ("MOST_MODEL", fibergravel::MOST_MODEL),
         ("READ_LENGTH", calls::READ_LENGTH),
         ("READ_REFERENCES_LENGTH", calls::READ_REFERENCES_LENGTH),
         ("JUDGE_PLAN_LENGTH", calls::JUDGE_PLAN_LENGTH),
         ("SOLVE_LENGTH", calls::SOLVE_LENGTH),
+        ("RECORD_LENGTH", calls::RECORD_LENGTH),
+        ("LABORATORY_LENGTH", fibergravel::LABORATORY_LENGTH),
         ("IMPORT_ENTRY_LENGTH", calls::IMPORT_ENTRY_LENGTH),
         ("IMPORT_LEFTOVER_LENGTH", calls::IMPORT_LEFTOVER_LENGTH),
     ];
@@ -42,10 +45,58 @@ fn places_of_the_references() {
     assert_eq!(calls::READ_REFERENCES_LENGTH, 2 * count);
 }
 
+/// The place that the header gives a name.
+fn place(name: &str) -> usize {
+    number(name).expect("in the header") as usize
+}
+
+#[test]
+fn kinds_of_a_record() {
+    assert_eq!(place("PROVED"), Kind::Proved as usize);
+    assert_eq!(place("IMPOSSIBLE"), Kind::Impossible as usize);
+    assert_eq!(place("KIND_OPEN"), Kind::Open as usize);
+}
+
+/// So many bytes at a named place, low byte first, as one unsigned number.
+fn number_at(bytes: &[u8], name: &str, count: usize) -> u32 {
+    let bytes = bytes[place(name)..].iter().take(count);
+    bytes.rfold(0, |number, byte| number * 256 + u32::from(*byte))
+}
+
+#[test]
+fn places_of_a_record() {
+    let tape = include_bytes!("../../examples/four_heaters.tape");
+    let mut laboratory = [0; fibergravel::LABORATORY_LENGTH];
+    let mut bytes = vec![0; read(tape).expect("a tape").service_length()];
+    let kind = record(tape, &mut laboratory, &mut bytes).expect("a record");
+    let found = Record::from_bytes(&bytes).expect("a record");
+    let Outcome::Proved { gap, plan, .. } = found.outcome else {
+        panic!("this tape has a plan")
+    };
+    assert_eq!(Seen::from_bytes(&laboratory), Some(found.seen()));
+    assert_eq!(number_at(&bytes, "RECORD_KIND", 1), kind as u32);
+    assert_eq!(
+        number_at(&bytes, "RECORD_DUTY_COUNT", 1),
+        found.inputs as u32
+    );
+    assert_eq!(
+        number_at(&bytes, "RECORD_ROUNDS", 2),
+        u32::from(found.rounds)
+    );
+    assert_eq!(number_at(&bytes, "RECORD_GAP", 4), gap);
+    assert_eq!(
+        number_at(&bytes, "RECORD_DUTIES", 2),
+        u32::from(plan[0] as u16)
+    );
+    assert_eq!(number_at(&bytes, "RECORD_STATES", 1), found.states as u32);
+    assert_eq!(number_at(&bytes, "RECORD_INPUTS", 1), found.inputs as u32);
+    assert_eq!(number_at(&bytes, "RECORD_STEPS", 1), found.steps as u32);
+    assert_eq!(number_at(&bytes, "RECORD_PLAN", 4), plan[0] as u32);
+}
+
 #[test]
 fn places_and_kinds_of_an_entry() {
     let (mut out, mut leftover) = ([0; 2], [0.0]);
-    let place = |name| number(name).expect("in the header") as usize;
     for (entry, kind, found) in [(1.0, "WHOLE", 4096), (0.2, "NEAR", 819)] {
         assert_eq!(calls::import_entry(entry, &mut out, &mut leftover), 0);
         assert_eq!(out[place("ENTRY_KIND")], place(kind) as i64);

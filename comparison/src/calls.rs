@@ -6,13 +6,15 @@ use std::fmt;
 use fibergravel::calls;
 use reference::cases::{read_numbers, reference_numbers};
 use reference::generate::Lent;
+use reference::record::{Kind, LABORATORY_LENGTH};
 use reference::{
-    judge_multipliers, judge_plan, read, solve, Furnace, Refusal, Shown, Solved, Whole,
+    judge_multipliers, judge_plan, read, record, solve, Furnace, Record, Refusal, Shown, Solved,
+    Whole,
 };
 
 use crate::guard::{marks, Beside, Guarded, GUARD};
 
-/// The five calls that take a tape.
+/// The six calls that take a tape.
 #[derive(Clone, Copy, Debug, PartialEq, Eq)]
 pub enum Call {
     /// Reads a tape.
@@ -25,16 +27,19 @@ pub enum Call {
     JudgeMultipliers,
     /// Solves.
     Solve,
+    /// Solves, and writes the record for both readers.
+    Record,
 }
 
 impl Call {
-    /// The five.
-    pub const ALL: [Call; 5] = [
+    /// The six.
+    pub const ALL: [Call; 6] = [
         Call::Read,
         Call::ReadReferences,
         Call::JudgePlan,
         Call::JudgeMultipliers,
         Call::Solve,
+        Call::Record,
     ];
 
     /// How many numbers the call's `out` has.
@@ -45,12 +50,13 @@ impl Call {
             Call::JudgePlan => calls::JUDGE_PLAN_LENGTH,
             Call::JudgeMultipliers => 0,
             Call::Solve => calls::SOLVE_LENGTH,
+            Call::Record => calls::RECORD_LENGTH,
         }
     }
 }
 
 /// What a call is lent. [`Call::Read`] and [`Call::ReadReferences`] take the tape alone,
-/// [`Call::JudgeMultipliers`] no plan.
+/// [`Call::JudgeMultipliers`] no plan, [`Call::Record`] neither a plan nor multipliers.
 #[derive(Clone, Copy, Debug)]
 pub struct Lending<'a> {
     /// Where it comes from, in a few words.
@@ -63,13 +69,20 @@ pub struct Lending<'a> {
     pub plan: &'a [i32],
     /// The lent multipliers.
     pub multipliers: &'a [i32],
+    /// How many bytes [`Call::Record`] is lent for the laboratory and for the service. They hold
+    /// marks.
+    pub readers: [usize; 2],
+    /// The record of the tape, where a solve has led to it already. Rounds of the second program are
+    /// dear, and need not be run again.
+    pub record: Option<&'a Record>,
 }
 
 /// FF behind a tape, which an end before FF would take for its own.
 const ENDS: [u8; GUARD] = [0xff; GUARD];
 
 impl<'a> Lending<'a> {
-    /// A tape and slices with [`ENDS`] behind the tape.
+    /// A tape and slices with [`ENDS`] behind the tape. A record has place for as many numbers as
+    /// are lent.
     pub fn new(
         origin: &'a str,
         tape: &'a [u8],
@@ -82,12 +95,25 @@ impl<'a> Lending<'a> {
             behind: &ENDS,
             plan,
             multipliers,
+            readers: [
+                LABORATORY_LENGTH,
+                LABORATORY_LENGTH + 3 + 4 * (plan.len() + multipliers.len()),
+            ],
+            record: None,
         }
     }
 
     /// A tape and generated slices.
     pub fn of(lent: &'a Lent, tape: &'a [u8]) -> Lending<'a> {
         Lending::new(lent.origin, tape, &lent.plan, &lent.multipliers)
+    }
+
+    /// What is lent for the laboratory and for the service; nothing by other calls.
+    pub fn for_readers(&self, call: Call) -> [Vec<u8>; 2] {
+        match call {
+            Call::Record => self.readers.map(marks),
+            _ => [Vec::new(), Vec::new()],
+        }
     }
 }
 
@@ -97,7 +123,9 @@ impl fmt::Display for Lending<'_> {
         writeln!(f, "tape {}", hex(self.tape))?;
         writeln!(f, "behind the tape {}", hex(self.behind))?;
         writeln!(f, "plan lent {:?}", self.plan)?;
-        write!(f, "multipliers lent {:?}", self.multipliers)
+        writeln!(f, "multipliers lent {:?}", self.multipliers)?;
+        let [laboratory, service] = self.readers;
+        write!(f, "bytes lent for a record {laboratory} and {service}")
     }
 }
 
@@ -126,6 +154,10 @@ pub struct Left {
     pub plan: Vec<i32>,
     /// The lent multipliers.
     pub multipliers: Vec<i32>,
+    /// What was lent for the laboratory.
+    pub laboratory: Vec<u8>,
+    /// What was lent for the service.
+    pub service: Vec<u8>,
     /// Is all else as it was: the tape and the cells beside everything that was lent?
     pub rest_holds: bool,
 }
@@ -138,28 +170,53 @@ pub fn by_planner(call: Call, lending: &Lending, beside: Beside) -> Left {
     };
     let mut plan = Guarded::marked(lending.plan, beside);
     let mut multipliers = Guarded::marked(lending.multipliers, beside);
-    let (answer, out) = match call {
-        Call::Read => with_out(beside, |out| calls::read(tape.lent(), out)),
-        Call::ReadReferences => with_out(beside, |out| calls::read_references(tape.lent(), out)),
-        Call::JudgePlan => with_out(beside, |out| {
-            calls::judge_plan(tape.lent(), plan.lent(), multipliers.lent(), out)
-        }),
-        Call::JudgeMultipliers => with_out(beside, |_: &mut [i64; 0]| {
-            calls::judge_multipliers(tape.lent(), multipliers.lent())
-        }),
-        Call::Solve => with_out(beside, |out| {
-            calls::solve(tape.lent(), plan.lent_mut(), multipliers.lent_mut(), out)
-        }),
-    };
+    let readers = lending.for_readers(call);
+    let [mut laboratory, mut service] = readers.map(|lent| Guarded::marked(&lent, beside));
+    let numbers = (&mut plan, &mut multipliers);
+    let bytes = (&mut laboratory, &mut service);
+    let (answer, out) = made(call, tape.lent(), numbers, bytes, beside);
     Left {
         answer,
         rest_holds: tape.all_hold()
             && plan.guards_hold()
             && multipliers.guards_hold()
+            && laboratory.guards_hold()
+            && service.guards_hold()
             && out.guards_hold(),
         out: out.lent().to_vec(),
         plan: plan.lent().to_vec(),
         multipliers: multipliers.lent().to_vec(),
+        laboratory: laboratory.lent().to_vec(),
+        service: service.lent().to_vec(),
+    }
+}
+
+/// Two things of one kind that are lent together.
+type Two<'a, T> = (&'a mut Guarded<T>, &'a mut Guarded<T>);
+
+/// Makes a call of the planner, and gives its answer and its `out`.
+fn made(
+    call: Call,
+    tape: &[u8],
+    (plan, multipliers): Two<i32>,
+    (laboratory, service): Two<u8>,
+    beside: Beside,
+) -> (u64, Guarded<i64>) {
+    match call {
+        Call::Read => with_out(beside, |out| calls::read(tape, out)),
+        Call::ReadReferences => with_out(beside, |out| calls::read_references(tape, out)),
+        Call::JudgePlan => with_out(beside, |out| {
+            calls::judge_plan(tape, plan.lent(), multipliers.lent(), out)
+        }),
+        Call::JudgeMultipliers => with_out(beside, |_: &mut [i64; 0]| {
+            calls::judge_multipliers(tape, multipliers.lent())
+        }),
+        Call::Solve => with_out(beside, |out| {
+            calls::solve(tape, plan.lent_mut(), multipliers.lent_mut(), out)
+        }),
+        Call::Record => with_out(beside, |out| {
+            calls::record(tape, laboratory.lent_mut(), service.lent_mut(), out)
+        }),
     }
 }
 
@@ -186,6 +243,8 @@ pub enum Answer {
     Shown(Result<Shown, Refusal>),
     /// Of [`Call::Solve`].
     Solved(Result<Solved, Refusal>),
+    /// Of [`Call::Record`].
+    Recorded(Result<Kind, Refusal>),
 }
 
 /// The second program's side.
@@ -193,12 +252,17 @@ pub fn by_reference(call: Call, lending: &Lending) -> (Answer, Left) {
     let tape = lending.tape;
     let mut plan = lending.plan.to_vec();
     let mut multipliers = lending.multipliers.to_vec();
+    let [mut laboratory, mut service] = lending.for_readers(call);
     let answer = match call {
         Call::Read => Answer::Read(read(tape)),
         Call::ReadReferences => Answer::References(read(tape)),
         Call::JudgePlan => Answer::Gap(judge_plan(tape, &plan, &multipliers)),
         Call::JudgeMultipliers => Answer::Shown(judge_multipliers(tape, &multipliers)),
         Call::Solve => Answer::Solved(solve(tape, &mut plan, &mut multipliers)),
+        Call::Record => Answer::Recorded(match lending.record {
+            Some(known) => known.write(&mut laboratory, &mut service),
+            None => record(tape, &mut laboratory, &mut service),
+        }),
     };
     let (number, out) = match numbers(&answer) {
         Ok(out) => (0, out),
@@ -209,6 +273,8 @@ pub fn by_reference(call: Call, lending: &Lending) -> (Answer, Left) {
         out,
         plan,
         multipliers,
+        laboratory,
+        service,
         rest_holds: true,
     };
     (answer, left)
@@ -243,6 +309,7 @@ fn numbers(answer: &Answer) -> Result<Vec<i64>, Refusal> {
             }
             Solved::Impossible { rounds } => vec![2, i64::from(rounds), 0, 0, 0, 0, 0],
         }),
+        Answer::Recorded(kind) => Ok(vec![i64::from((*kind)?.number())]),
     }
 }
 

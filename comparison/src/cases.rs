@@ -5,10 +5,12 @@ use reference::count::refused;
 use reference::generate::commands::of_furnace;
 use reference::generate::lent::any_values;
 use reference::generate::{case, Lent, Random};
+use reference::marks::Sizes;
 use reference::model::Furnace;
+use reference::record::Record;
 use reference::refusal::Refusal;
 
-use crate::calls::{Answer, Call, Lending};
+use crate::calls::{Answer, Call, Left, Lending};
 use crate::comparison::{Comparison, ALL_CURVES, CUT, JUDGED, NO_CURVE, REFERENCES, SOME_CURVES};
 use crate::guard::GUARD;
 use crate::tune;
@@ -36,11 +38,15 @@ impl Comparison {
         // The slices' draws are the case's, these are the comparison's.
         let mut random = Random::new(!seed);
         let mut open = false;
+        let mut record = None;
         for lent in &case.solved {
-            let solved = self.solve(tape, lent);
+            let (solved, left) = self.solve(tape, lent);
             self.counts.add_solved(solved, &furnace);
             open |= matches!(solved, Err(Refusal::Open { .. }));
+            // The last slices lent have the right lengths.
+            record = record_of(&furnace, solved, &left);
         }
+        self.record(tape, record.as_ref());
         self.cut(tape, &case.solved[0], &mut random);
         if let (true, Ok(furnace)) = (open, &furnace) {
             self.add_open(furnace, &mut random);
@@ -67,7 +73,7 @@ impl Comparison {
             let (plan, multipliers) = (furnace.plan_length(), furnace.multipliers_length());
             let mut lent = any_values(plan, multipliers, random);
             lent.origin = name;
-            let solved = self.solve(&tape, &lent);
+            let (solved, _) = self.solve(&tape, &lent);
             self.counts.add(name, &solve_name(solved));
         }
     }
@@ -84,13 +90,13 @@ impl Comparison {
     }
 
     /// Solves, and judges what the solve left, whatever its answer.
-    fn solve(&mut self, tape: &[u8], lent: &Lent) -> Result<Solved, Refusal> {
+    fn solve(&mut self, tape: &[u8], lent: &Lent) -> (Result<Solved, Refusal>, Left) {
         let (answer, left) = self.call(Call::Solve, &Lending::of(lent, tape));
         let lending = Lending::new(JUDGED, tape, &left.plan, &left.multipliers);
         self.also(Call::JudgePlan, &lending);
         self.also(Call::JudgeMultipliers, &lending);
         match answer {
-            Answer::Solved(solved) => solved,
+            Answer::Solved(solved) => (solved, left),
             _ => unreachable!("solving gives its own answer"),
         }
     }
@@ -108,6 +114,16 @@ impl Comparison {
             self.also(call, &lending);
         }
     }
+}
+
+/// The record that a solve's answer and what it left make, where they make one.
+fn record_of(
+    furnace: &Result<Furnace, Refusal>,
+    solved: Result<Solved, Refusal>,
+    left: &Left,
+) -> Option<Record> {
+    let sizes = Sizes::of(furnace.as_ref().ok()?);
+    Record::of_solve(sizes, solved, &left.plan, &left.multipliers).ok()
 }
 
 /// The name of a reading of references in the counts: how many columns have a curve.

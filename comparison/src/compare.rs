@@ -7,7 +7,7 @@ use std::process::{Command, ExitCode, Stdio};
 use crate::comparison::Comparison;
 use crate::guard::Beside;
 use crate::part::Part;
-use crate::{edges, given, imports, slip, weights};
+use crate::{edges, given, imports, records, slip, weights};
 
 /// Says where a long run is once in so many tapes.
 const SAY_ONE_IN: u64 = 10_000;
@@ -106,6 +106,7 @@ pub fn add(comparison: &mut Comparison, part: Part) {
         Part::Slices => edges::add_slices(comparison),
         Part::Equal => edges::add_equal(comparison),
         Part::Weights => weights::add_weights(comparison),
+        Part::Records => records::add_records(comparison),
         Part::Entries => imports::add_entries(comparison),
         Part::Models => imports::add_models(comparison),
         Part::Case(seed) => comparison.add_case(seed),

@@ -9,6 +9,7 @@ use reference::slip as slip_text;
 use crate::calls::{by_planner, by_reference, Answer, Call, Left, Lending};
 use crate::guard::Beside;
 use crate::part::Part;
+use crate::records::{self, AT_THE_EDGES};
 use crate::{slip, tune, wrapper};
 
 /// A comparison ends soon after so many differences, and prints no more of them.
@@ -47,6 +48,10 @@ pub const EVERY_WEIGHT: &str = "every weight of every column";
 pub const ALL_WEIGHTS_0: &str = "all weights 0, other numbers at limits";
 /// Of [`ALSO`]: all weights 0 with lo = hi in every column.
 pub const ONE_NUMBER: &str = "all weights 0, lo = hi";
+/// Of [`ALSO`]: records of all sizes, and of all lengths about the right ones.
+pub const RECORD_SIZES: &str = "records of all sizes";
+/// Of [`ALSO`]: records with numbers that look absent.
+pub const RECORD_NUMBERS: &str = "records with numbers of FF";
 /// Of [`ALSO`]: entries beside every number and every half.
 pub const ENTRIES: &str = "entries beside numbers, halves and powers of two";
 /// Of [`ALSO`]: models with slices of every length, and of sizes beside the range.
@@ -57,7 +62,7 @@ pub const FAULTS: &str = "faulty entries of models";
 pub const IMPORTED: &str = "imported models read from a tape";
 
 /// The names under [`ALSO`].
-const ALSO_NAMES: [&str; 15] = [
+const ALSO_NAMES: [&str; 17] = [
     CUT,
     JUDGED,
     TAPE_LENGTHS,
@@ -69,6 +74,8 @@ const ALSO_NAMES: [&str; 15] = [
     EVERY_WEIGHT,
     ALL_WEIGHTS_0,
     ONE_NUMBER,
+    RECORD_SIZES,
+    RECORD_NUMBERS,
     ENTRIES,
     MODEL_LENGTHS,
     FAULTS,
@@ -105,6 +112,8 @@ impl Comparison {
         counts.expect(STEPS, step_refusals());
         counts.expect_given();
         counts.expect_imports();
+        counts.expect_records();
+        counts.expect(AT_THE_EDGES, records::names());
         counts.expect(
             "slip",
             answers(&["proved", "impossible", "open"], &refusals),

@@ -12,6 +12,7 @@ mod guard;
 mod imports;
 mod memory;
 mod part;
+mod records;
 mod slip;
 mod tune;
 mod weights;
@@ -26,12 +27,13 @@ comparison: the planner against the second program
 comparison compare [COUNT [SEED]]
     Makes COUNT (20000) cases from the seeds SEED (0), SEED + 1, .., and for each seed a tape that
     gives a drawn set of places, 50 entries and 2 models in floats, by the second program's
-    generators and runs them through the seven calls of libplanner.a and through the second
+    generators and runs them through the eight calls of libplanner.a and through the second
     program; before them tapes, slices and models of every length, tapes without each of the
-    required places, tapes with weights of 0 at the edges, entries beside every number and every
-    half, and inputs of the program slip. Every number of every answer and of everything lent is
-    compared, refusals included, with guard cells around what is lent, floats bit by bit; so is the
-    text of the program slip. Says every 10000 tapes on standard error where it is. Prints how often
+    required places, tapes with weights of 0 at the edges, records of every size and with numbers
+    that look absent, entries beside every number and every half, and inputs of the program slip.
+    Every number of every answer and of everything lent is compared, refusals included, with guard
+    cells around what is lent, floats bit by bit, records byte by byte; so is the text of the
+    program slip. Records are lent slices of wrong lengths too. Says every 10000 tapes on standard error where it is. Prints how often
     each answer and each refusal came, and each difference with its origin, everything lent and the
     command that repeats it. Fails if something differs or if a count is 0, which is to be expected
     of a small COUNT. Where one side crashes, it names the command that repeats that.
@@ -47,9 +49,9 @@ comparison replay PART
     command left out, given again or alone (places), tapes of the largest sizes with all curves
     that lack one required place, two neighbours or more (missing), plans and multipliers of every
     length (slices), floors at the ceiling (equal), every weight, and all weights 0 with other
-    numbers at their limits and with one number a column (weights), entries beside numbers, halves
-    and powers of two (entries), models of every length and with a faulty entry at every place
-    (models).
+    numbers at their limits and with one number a column (weights), records of every size, with
+    numbers of FF throughout, and with the widest gap (records), entries beside numbers, halves and
+    powers of two (entries), models of every length and with a faulty entry at every place (models).
 
 comparison memory [COUNT [SEED]]
     Compares COUNT (200) cases, tapes with drawn places, and entries and models, with each thing

@@ -20,6 +20,8 @@ pub enum Part {
     Equal,
     /// Weights of 0 at the edges.
     Weights,
+    /// Records of all sizes, and with numbers that look absent.
+    Records,
     /// Entries beside numbers, halves and powers of two.
     Entries,
     /// Models of every length, and with a faulty entry at every place.
@@ -36,7 +38,7 @@ pub enum Part {
 
 impl Part {
     /// All that have no seed.
-    pub const EDGES: [Part; 9] = [
+    pub const EDGES: [Part; 10] = [
         Part::Slips,
         Part::Tapes,
         Part::Places,
@@ -44,6 +46,7 @@ impl Part {
         Part::Slices,
         Part::Equal,
         Part::Weights,
+        Part::Records,
         Part::Entries,
         Part::Models,
     ];
@@ -78,6 +81,7 @@ impl fmt::Display for Part {
             Part::Slices => f.write_str("slices"),
             Part::Equal => f.write_str("equal"),
             Part::Weights => f.write_str("weights"),
+            Part::Records => f.write_str("records"),
             Part::Entries => f.write_str("entries"),
             Part::Models => f.write_str("models"),
             Part::Case(seed) => write!(f, "{seed}"),

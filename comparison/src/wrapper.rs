@@ -1,8 +1,12 @@
 //! The same calls through the safe wrapper's own types.
 
+use std::fmt::Debug;
+
 use fibergravel as planner;
 use reference::cases::{read_numbers, reference_numbers};
 use reference::generate::Model;
+use reference::marks::Sizes;
+use reference::record::{Kind, Outcome, Record};
 use reference::{Entry, Refusal, Solved};
 
 use crate::calls::{narrow, narrow_all, Answer, Call, Left, Lending};
@@ -12,48 +16,48 @@ pub fn difference(call: Call, lending: &Lending, answer: &Answer, left: &Left) -
     let tape = lending.tape;
     let mut plan = lending.plan.to_vec();
     let mut multipliers = lending.multipliers.to_vec();
-    let (same, text) = match (call, answer) {
+    let other_answer = match (call, answer) {
         (Call::Read, Answer::Read(expected)) => {
-            let found = planner::read(tape);
-            let same = same(&found, expected, |found, expected| {
-                numbers(found) == narrow_all(read_numbers(expected))
-            });
-            (same, format!("{found:?}"))
+            other(planner::read(tape), expected, |found, read| {
+                numbers(found) == narrow_all(read_numbers(read))
+            })
         }
         (Call::ReadReferences, Answer::References(expected)) => {
-            let found = planner::read_references(tape);
-            let same = same(&found, expected, |found, expected| {
-                references(found) == narrow_all(reference_numbers(expected))
-            });
-            (same, format!("{found:?}"))
+            other(planner::read_references(tape), expected, |found, read| {
+                references(found) == narrow_all(reference_numbers(read))
+            })
         }
         (Call::JudgePlan, Answer::Gap(expected)) => {
             let found = planner::judge_plan(tape, &plan, &multipliers);
-            let same = same(&found, expected, |found, expected| {
-                *found == narrow(*expected)
-            });
-            (same, format!("{found:?}"))
+            other(found, expected, |found, gap| *found == narrow(*gap))
         }
         (Call::JudgeMultipliers, Answer::Shown(expected)) => {
             let found = planner::judge_multipliers(tape, &multipliers);
-            let same = same(&found, expected, |planner::Shown, reference::Shown| true);
-            (same, format!("{found:?}"))
+            other(found, expected, |planner::Shown, reference::Shown| true)
         }
         (Call::Solve, Answer::Solved(expected)) => {
             let found = planner::solve(tape, &mut plan, &mut multipliers);
-            let same = same(&found, expected, |found, expected| {
-                *found == as_planner(*expected)
-            });
-            (same, format!("{found:?}"))
+            other(found, expected, |found, end| *found == as_planner(*end))
         }
-        _ => (false, "an answer of another call".to_string()),
+        (Call::Record, Answer::Recorded(expected)) => record_difference(lending, expected, left),
+        _ => Some("an answer of another call".to_string()),
     };
-    if same && plan == left.plan && multipliers == left.multipliers {
+    if other_answer.is_none() && plan == left.plan && multipliers == left.multipliers {
         return None;
     }
+    let answer = other_answer.unwrap_or("the same answer".to_string());
     Some(format!(
-        "{text}, plan {plan:?}, multipliers {multipliers:?}"
+        "{answer}, plan {plan:?}, multipliers {multipliers:?}"
     ))
+}
+
+/// What was found, as a text, where it is not what was expected.
+fn other<Found: Debug, Expected>(
+    found: Result<Found, planner::Refusal>,
+    expected: &Result<Expected, Refusal>,
+    equal: impl Fn(&Found, &Expected) -> bool,
+) -> Option<String> {
+    (!same(&found, expected, equal)).then(|| format!("{found:?}"))
 }
 
 /// Are both results, and equal ones, or both the same refusal?
@@ -113,6 +117,102 @@ pub fn model_difference(
     let found = planner::import_model(*states, *inputs, a, b, &mut out);
     let same = same(&found, &expected, |(), ()| true) && out == written;
     (!same).then(|| format!("{found:?}, out {out:?}"))
+}
+
+/// What the wrapper says of a record, as a text, where it differs from the second program.
+fn record_difference(
+    lending: &Lending,
+    expected: &Result<Kind, Refusal>,
+    left: &Left,
+) -> Option<String> {
+    let [mut laboratory, mut service] = lending.for_readers(Call::Record);
+    let found = planner::record(lending.tape, &mut laboratory, &mut service);
+    let same = same(&found, expected, |found, expected| {
+        as_reference(*found) == *expected && reads_back(left)
+    });
+    if same && laboratory == left.laboratory && service == left.service {
+        return None;
+    }
+    let seen = planner::Seen::from_bytes(&laboratory);
+    let record = planner::Record::from_bytes(&service);
+    Some(format!(
+        "{found:?}, laboratory {laboratory:?}, service {service:?}, read as {seen:?}, {record:?}"
+    ))
+}
+
+/// Does the wrapper read a record's bytes as the record that the second program wrote? It has no
+/// reader of its own; but it writes different bytes for different records, so that writing what was
+/// read must give the same bytes again.
+fn reads_back(left: &Left) -> bool {
+    let (Some(seen), Some(found)) = (
+        planner::Seen::from_bytes(&left.laboratory),
+        planner::Record::from_bytes(&left.service),
+    ) else {
+        return false;
+    };
+    let record = as_record(&found);
+    record.service_bytes() == left.service
+        && record.laboratory_bytes() == left.laboratory
+        && as_reference(found.kind()) == record.kind()
+        && found.seen() == seen
+        && same_seen(&seen, &record)
+}
+
+/// Does the wrapper's laboratory see the record's kind, rounds, gap and first duties?
+fn same_seen(seen: &planner::Seen, record: &Record) -> bool {
+    match seen {
+        planner::Seen::Proved {
+            rounds,
+            gap,
+            duties,
+        } => {
+            record.kind() == Kind::Proved
+                && *rounds == record.rounds
+                && Some(*gap) == record.gap()
+                && **duties == record.duties()
+        }
+        planner::Seen::Impossible { rounds } => {
+            record.kind() == Kind::Impossible && *rounds == record.rounds
+        }
+        planner::Seen::Open { rounds } => record.kind() == Kind::Open && *rounds == record.rounds,
+    }
+}
+
+/// The wrapper's kind in the second program's type.
+fn as_reference(kind: planner::Kind) -> Kind {
+    match kind {
+        planner::Kind::Proved => Kind::Proved,
+        planner::Kind::Impossible => Kind::Impossible,
+        planner::Kind::Open => Kind::Open,
+    }
+}
+
+/// The wrapper's record in the second program's type.
+fn as_record(found: &planner::Record) -> Record {
+    let outcome = match &found.outcome {
+        planner::Outcome::Proved {
+            gap,
+            plan,
+            multipliers,
+        } => Outcome::Proved {
+            gap: *gap,
+            plan: plan.to_vec(),
+            multipliers: multipliers.to_vec(),
+        },
+        planner::Outcome::Impossible { multipliers } => Outcome::Impossible {
+            multipliers: multipliers.to_vec(),
+        },
+        planner::Outcome::Open => Outcome::Open,
+    };
+    Record {
+        sizes: Sizes {
+            states: found.states,
+            inputs: found.inputs,
+            horizon: found.steps,
+        },
+        rounds: found.rounds,
+        outcome,
+    }
 }
 
 /// The second program's answer in the wrapper's type.

@@ -2,15 +2,19 @@
 
 mod given;
 mod import;
+mod record;
 
 pub use given::GIVEN;
 pub use import::IMPORTS;
+pub use record::RECORDS;
 
 use std::collections::BTreeMap;
 
 use crate::calls::{judge_multipliers, judge_plan, read, solve, Shown, Solved};
 use crate::generate::{case, Case, Kind};
+use crate::marks::Sizes;
 use crate::model::{Furnace, Whole};
+use crate::record::Record;
 use crate::refusal::Refusal;
 use crate::shapes::{all_weights_0, curves, some_weight_0, Shape, SHAPES};
 use crate::tape::{
@@ -231,12 +235,18 @@ impl Counts {
             self.add_gap(judge_plan(tape, &lent.plan, &lent.multipliers));
             self.add_shown(judge_multipliers(tape, &lent.multipliers));
         }
+        // The last slices lent have the right lengths.
+        let mut record = None;
         for lent in &case.solved {
             let mut plan = lent.plan.clone();
             let mut multipliers = lent.multipliers.clone();
             let solved = solve(tape, &mut plan, &mut multipliers);
             self.add_solved(solved, &furnace);
+            let sizes = furnace.as_ref().ok().map(Sizes::of);
+            let of_solve = |sizes| Record::of_solve(sizes, solved, &plan, &multipliers).ok();
+            record = sizes.and_then(of_solve);
         }
+        self.add_records(tape, record.as_ref());
     }
 
     /// Fails where a count is 0.
@@ -358,6 +368,7 @@ pub fn count_cases(count: u64, first_seed: u64) -> Counts {
     counts.expect(STEPS, step_refusals());
     counts.expect_given();
     counts.expect_imports();
+    counts.expect_records();
     for place in 0..count {
         let seed = first_seed.wrapping_add(place);
         counts.add_case(&case(seed));

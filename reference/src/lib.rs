@@ -1,16 +1,16 @@
 //! A second program for the sinter furnace planner.
 //!
 //! It is written from the papers alone, so that the planner's answers can be compared with it:
-//! document 01 ("Sinter furnace planner: tape, plan, gap") and requests 1 to 4 of document 02
-//! ("Requests for later changes"), a reference for each step, models in floats, given marks and
-//! columns of weight 0. It puts plainness before speed: the sums are written as the papers write
-//! them, and all whole numbers have 128 bits.
+//! document 01 ("Sinter furnace planner: tape, plan, gap") and requests 1 to 5 of document 02
+//! ("Requests for later changes"), a reference for each step, models in floats, given marks,
+//! columns of weight 0 and firing records. It puts plainness before speed: the sums are written as
+//! the papers write them, and all whole numbers have 128 bits.
 //!
 //! The modules follow document 01's sections: [`model`], [`tape`], [`floor`], [`rounds`],
-//! [`calls`], [`refusal`] and [`mod@slip`]; [`import`] is request 2, [`marks`] request 3, and
-//! request 4's rule is [`floor::end_by_slope`]. [`cases`] answers a text of test cases,
-//! [`generate`] makes tapes, plans, multipliers, entries and models from a seed, and [`count`]
-//! counts what they lead to, by rounds, sizes and [`shapes`].
+//! [`calls`], [`refusal`] and [`mod@slip`]; [`import`] is request 2, [`marks`] request 3, request
+//! 4's rule is [`floor::end_by_slope`], and [`mod@record`] is request 5. [`cases`] answers a text of
+//! test cases, [`generate`] makes tapes, plans, multipliers, entries and models from a seed, and
+//! [`count`] counts what they lead to, by rounds, sizes and [`shapes`].
 #![forbid(unsafe_code)]
 #![deny(missing_docs)]
 // The loops name the paper's indexes k, i and j.
@@ -24,6 +24,7 @@ pub mod generate;
 pub mod import;
 pub mod marks;
 pub mod model;
+pub mod record;
 pub mod refusal;
 pub mod rounds;
 pub mod shapes;
@@ -33,5 +34,6 @@ pub mod tape;
 pub use calls::{judge_multipliers, judge_plan, read, solve, solve_traced, Shown, Solved};
 pub use import::{import_entry, import_model, Entry};
 pub use model::{Furnace, Whole};
+pub use record::{record, Record};
 pub use refusal::Refusal;
 pub use slip::slip;

@@ -7,13 +7,18 @@ use std::process::ExitCode;
 
 use reference::cases::expect;
 use reference::count::count_cases;
-use reference::slip;
+use reference::{record, slip};
 
 const HELP: &str = "\
 reference: a second program for the sinter furnace planner, written from the papers alone
 
 reference slip < TAPE
     Writes the firing slip of the tape on standard input.
+
+reference record < TAPE
+    Writes the firing record of the tape on standard input: a line `laboratory ..` and a line
+    `service ..` with the bytes that each reader sees, two hex digits a byte, or the refusal as the
+    slip has it. An open tape has a record.
 
 reference expect < CASES
     Writes the output expected from the planner's test programs. CASES is a text, one case a
@@ -68,9 +73,9 @@ reference generate [COUNT [SEED]]
     gives a drawn set of places, 50 entries and 2 models in floats, runs them through the calls and
     writes how often each answer and each refusal came, how often 'proved' and 'impossible' came by
     rounds, sizes, rare shapes, curves and weights of 0, what a solve came to with these, how often
-    a command 31 brought a refusal about, how many required places were missing, and answers to
-    entries and models by kinds, sizes and rare shapes. Fails if a count is 0, which is to be
-    expected of a small COUNT.
+    a command 31 brought a refusal about, how many required places were missing, answers to entries
+    and models by kinds, sizes and rare shapes, and records by kind, m, rare shapes and wrong
+    lengths. Fails if a count is 0, which is to be expected of a small COUNT.
 ";
 
 fn main() -> ExitCode {
@@ -90,6 +95,7 @@ fn run(words: &[&str]) -> Result<(), String> {
     match words {
         ["--help" | "-h" | "help"] => write_out(HELP),
         ["slip"] => write_out(&slip(&standard_input()?)),
+        ["record"] => write_out(&record::text(&standard_input()?)),
         ["expect"] => {
             let text = String::from_utf8(standard_input()?);
             let text = text.map_err(|_| "the cases are no text")?;

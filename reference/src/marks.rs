@@ -6,6 +6,7 @@
 
 use std::collections::BTreeSet;
 
+use crate::model::Furnace;
 use crate::tape::{MOST_INPUTS, MOST_STATES, MOST_STEPS};
 
 /// A place that can be required. They are in the order of the marks: columns, start values, the
@@ -44,6 +45,15 @@ impl Sizes {
         horizon: MOST_STEPS,
     };
 
+    /// A furnace's.
+    pub fn of(furnace: &Furnace) -> Sizes {
+        Sizes {
+            states: furnace.states,
+            inputs: furnace.inputs,
+            horizon: furnace.horizon,
+        }
+    }
+
     /// Does each lie in document 01's range?
     pub fn in_range(&self) -> bool {
         (1..=MOST_STATES).contains(&self.states)
@@ -54,6 +64,16 @@ impl Sizes {
     /// n+m.
     pub fn columns(&self) -> usize {
         self.states + self.inputs
+    }
+
+    /// N(n+m), the number of plan numbers.
+    pub fn plan_length(&self) -> usize {
+        self.horizon * self.columns()
+    }
+
+    /// N × n, the number of multipliers.
+    pub fn multipliers_length(&self) -> usize {
+        self.horizon * self.states
     }
 
     /// The places within the sizes, in order.

@@ -1,5 +1,7 @@
 //! The furnace as the tape gives it: model, limits and cost.
 
+use crate::marks::Sizes;
+
 /// A whole number. 128 bits hold every product and sum of document 01 with room to spare: the
 /// largest is the square of a slope, below 3 × 10^24.
 pub type Whole = i128;
@@ -130,12 +132,12 @@ impl Furnace {
 
     /// N(n+m), the number of plan numbers.
     pub fn plan_length(&self) -> usize {
-        self.horizon * (self.states + self.inputs)
+        Sizes::of(self).plan_length()
     }
 
     /// N × n, the number of multipliers.
     pub fn multipliers_length(&self) -> usize {
-        self.horizon * self.states
+        Sizes::of(self).multipliers_length()
     }
 }
 

@@ -7,10 +7,7 @@ use crate::refusal::Refusal;
 pub fn slip(tape: &[u8]) -> String {
     let furnace = match read(tape) {
         Ok(furnace) => furnace,
-        Err(refusal) => {
-            let offset = refusal.carried().expect("a tape refusal carries an offset");
-            return format!("refused {} at {offset}\n", refusal.number());
-        }
+        Err(refusal) => return refused(refusal),
     };
     let mut plan = vec![0; furnace.plan_length()];
     let mut multipliers = vec![0; furnace.multipliers_length()];
@@ -26,4 +23,10 @@ pub fn slip(tape: &[u8]) -> String {
         Err(Refusal::Open { rounds }) => format!("open\nrounds {rounds}\n"),
         Err(_) => unreachable!("the tape is whole and the slices have their lengths"),
     }
+}
+
+/// The text of a tape's refusal.
+pub(crate) fn refused(refusal: Refusal) -> String {
+    let offset = refusal.carried().expect("a tape refusal carries an offset");
+    format!("refused {} at {offset}\n", refusal.number())
 }

@@ -11,5 +11,6 @@ pub mod Operand
 pub mod Encoding
 pub mod Places
 pub mod Middle
+pub mod Filled
 pub mod Naturals
 pub mod Tests

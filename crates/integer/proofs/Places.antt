@@ -1,12 +1,12 @@
 -- Filling arrays: place by place, then stretch by stretch and step by step.
-use Prim.Native.Nat.{ℕ, zero, suc, _+_, _-_, _*_, _/_, _%_, _<_, _≤_}
+use Prim.Native.Nat.{ℕ, zero, suc, _+_, _-_, _*_, _/_, _%_, _<_, _≤_, zero-le}
 use mathlib.Core.Path.{_≡_, refl, sym, _∙_, ap, subst}
 use mathlib.Core.Logic.{_⊎_, inl, inr, ⊎-elim}
-use mathlib.Core.List.{List}
+use mathlib.Core.List.{List, [], _∷_}
 use native.Mathlib.Omega.{arith}
 use native.Mathlib.Decide.{decLe}
 use native.Mathlib.Nat.{div-add-mod, mod-lt, div-lt-iff-lt-mul}
-use lib.ListN.{length, length-set, set, replicate, List·getD-eq-default}
+use lib.ListN.{length, length-set, set, take, replicate, List·getD-eq-default}
 use lib.Seq.{getD-set-same, getD-set-other}
 use lib.IntN.{ℤ, pos, natAbs}
 use Rattle.integer.specs.Places.{at, Bounded, Stretch, Steps}
@@ -25,6 +25,16 @@ pub all-bounded : {B : ℕ} (l : List ℤ) (n : ℕ) → length l ≡ n → ((p 
 all-bounded l n e h = record {
   each = λ p. ⊎-elim (h p) (λ k. let m : length l ≤ p = omega arith in rw (List·getD-eq-default l (pos 0) m) (omega arith)) (lt-or-le p n);
 }
+
+-- the first numbers of a list are within what all are within
+pub take-bounded : {B : ℕ} (k : ℕ) (l : List ℤ) → Bounded B l → Bounded B (take k l)
+take-bounded {B} k l b = record { each = go k l (b .each) }
+  where
+    go : (k : ℕ) (l : List ℤ) → ((p : ℕ) → natAbs (at l p) ≤ B) → (p : ℕ) → natAbs (at (take k l) p) ≤ B
+    go zero l h p = zero-le
+    go (suc k) [] h p = zero-le
+    go (suc k) (z ∷ l) h zero = h 0
+    go (suc k) (z ∷ l) h (suc p) = go k l (λ q. h (suc q)) p
 
 -- ---- A stretch
 

@@ -8,10 +8,10 @@ unfoldable pub unsignedBytes : ℕ → ℕ → List ℕ
 unsignedBytes zero n = []
 unsignedBytes (suc k) n = n % 256 ∷ unsignedBytes k (n / 256)
 
--- Two's complement: a number below 0 stands as itself plus 256^k. `negsuc n` is −(n + 1).
+-- Two's complement among `count` numbers: one below 0 stands as itself plus count. `negsuc n` is −(n + 1).
 unfoldable pub complement : ℕ → ℤ → ℕ
-complement k (pos n) = n
-complement k (negsuc n) = 256 ^ k - suc n
+complement count (pos n) = n
+complement count (negsuc n) = count - suc n
 
 abbrev pub signedBytes : ℕ → ℤ → List ℕ
-signedBytes k z = unsignedBytes k (complement k z)
+signedBytes k z = unsignedBytes k (complement (256 ^ k) z)

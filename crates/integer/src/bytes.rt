@@ -1,11 +1,13 @@
-// Operands of a tape, the low byte first, each with its range. The reader knows that an operand is
-// there: it has refused a command that is cut.
+// Numbers as bytes, the low byte first. Operands of a tape are read, each with its range; the reader
+// knows that an operand is there, since it has refused a command that is cut. Numbers are written for
+// a tape or a record.
 ghost use Prim.Native.Nat.{_+_, _*_, _<_, _≤_};
 ghost use mathlib.Core.Path.{_≡_};
 ghost use mathlib.Core.Bool.{cond};
 ghost use lib.Dec.{ltb};
-ghost use lib.IntN.{pos, negsuc, _-ℤ_};
+ghost use lib.IntN.{pos, negsuc, natAbs, _-ℤ_};
 ghost use lib.ListN.{length};
+ghost use Rattle.integer.specs.Encoding.{unsignedBytes, complement};
 ghost use Rattle.integer.specs.Order.{_≼_};
 ghost use Rattle.integer.specs.Operand.{unsigned, signed, operand};
 
@@ -62,4 +64,28 @@ fn from_twos_complement(v: usize, count: usize) -> i64
         return v as i64;
     }
     v as i64 - count as i64
+}
+
+// What stands for a number among count numbers of two's complement.
+pub fn twos_complement(number: i64, count: usize) -> usize
+    requires { ⌜ (natAbs number ≤ count) × (count ≤ 4294967296) ⌝ }
+    ensures { λ r. ⌜ r ≡ complement count number ⌝ }
+{
+    if number < 0 {
+        return (number + count as i64) as usize;
+    }
+    number as usize
+}
+
+// Fills a part with a number's bytes, as many as the part has.
+pub fn write_unsigned(part: &mut [u8], number: usize)
+    ensures { λ _. ⌜ now (part .exit) ≡ unsignedBytes (length (now (part .entry))) number ⌝ }
+{
+    let mut rest = number;
+    let mut i: usize = 0;
+    while i < part.len() {
+        part[i] = (rest % 256) as u8;
+        rest = rest / 256;
+        i += 1;
+    }
 }

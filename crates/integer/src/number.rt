@@ -7,8 +7,8 @@ ghost use Rattle.integer.specs.Order.{_≼_};
 ghost use Rattle.integer.specs.Quotient.{_÷_};
 ghost use Rattle.integer.specs.Tests.{outside};
 
-// x / d rounded down. Every divisor of document 01 is from 1: 4,096, 65,536, k + 2 and, as weights
-// are from 1, 2P.
+// x / d rounded down. Every divisor of document 01 is from 1: 4,096, 65,536, k + 2 and 2P, by which
+// nothing is divided where the weight is 0.
 pub fn quotient(x: i64, d: i64) -> i64
     requires { ⌜ pos 1 ≼ d ⌝ }
     ensures { λ r. ⌜ r ≡ x ÷ d ⌝ }

@@ -15,7 +15,7 @@ use Rattle.integer.specs.Operand.{unsigned, operand}
 use Rattle.integer.specs.Encoding.{unsignedBytes, signedBytes}
 use Rattle.integer.proofs.Sizes.{size-low, size-high}
 use Rattle.integer.proofs.Operand.{operand-behind}
-use Rattle.integer.proofs.Encoding.{signed-back}
+use Rattle.integer.proofs.Encoding.{in-bytes, signed-back}
 use Rattle.integer.proofs.Tests.{not-outside}
 use Rattle.integer.proofs.Places.{step-room}
 use Rattle.commands.specs.declared.Command.the-variants.{Give}
@@ -27,7 +27,7 @@ use Rattle.import.specs.Entries.{number, imported}
 use Rattle.models.specs.Models.{numberIn, command, commandsFrom, Gives, Readable}
 use Rattle.models.proofs.Number.{number-small}
 use Rattle.models.proofs.Tested.{Ready, number-at}
-use Rattle.models.proofs.Output.{in-two-bytes, entryCommand, commands-append, commands-length}
+use Rattle.models.proofs.Output.{entryCommand, commands-append, commands-length}
 
 -- ---- One command
 
@@ -50,7 +50,7 @@ module _ (front behind : List ℕ) (i j : ℕ) (z : ℤ) (h : natAbs z ≤ 16384
   pair-given : (byte : ℕ) (entry : ℕ → ℕ → ℤ → Entry) → pairCommand entry (front ++ five byte) (length front) ≡ Give (entry i j z)
   unfolding pairCommand
   pair-given byte entry =
-      let r = in-two-bytes z h in
+      let r = in-bytes 2 z h (omega arith) in
       let back = signed-back 2 z (r .0) (r .1) in
       rw (lt-leb (length (front ++ five byte)) (length front + 4) (long byte), index byte 1 i refl, index byte 2 j refl, two byte, back) refl
 

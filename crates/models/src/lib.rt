@@ -4,12 +4,14 @@ ghost use mathlib.Core.Path.{_≡_};
 ghost use mathlib.Core.List.{_∷_, _++_};
 ghost use lib.ListN.{length};
 ghost use lib.IntN.{natAbs};
-ghost use Rattle.integer.specs.Encoding.{complement, signedBytes};
+ghost use Rattle.integer.specs.Encoding.{signedBytes};
 ghost use Rattle.import.specs.Entries.{imported};
 ghost use Rattle.models.specs.Models.{wrongLength, verdict, tested, modelAnswer, numberIn, commandsFrom, modelLeft, ReadBack};
 use commands::is_wrong_size;
 use import::Entry;
 use import::import_entry;
+use integer::bytes::twos_complement;
+use integer::bytes::write_unsigned;
 use tape::refusal::Refusal;
 
 pub enum Model {
@@ -131,20 +133,9 @@ fn write_command(out: &mut [u8], byte: u8, row: usize, column: usize, number: i6
     requires { ⌜ (length (now out) ≡ 5) × (row < 256) × (column < 256) × (natAbs number ≤ 16384) ⌝ }
     ensures { λ _. ⌜ now (out .exit) ≡ byte ∷ row ∷ column ∷ signedBytes 2 number ⌝ }
 {
-    let word = twos_complement(number);
+    let word = twos_complement(number, 65536);
     out[0] = byte;
     out[1] = row as u8;
     out[2] = column as u8;
-    out[3] = (word % 256) as u8;
-    out[4] = (word / 256) as u8;
-}
-
-fn twos_complement(number: i64) -> usize
-    requires { ⌜ natAbs number ≤ 16384 ⌝ }
-    ensures { λ r. ⌜ (r ≡ complement 2 number) × (r < 65536) ⌝ }
-{
-    if number < 0 {
-        return (number + 65536) as usize;
-    }
-    number as usize
+    write_unsigned(&mut out[3..5], word);
 }

@@ -1,3 +1,2 @@
 -- What the functions' proofs, and the crates above, cite.
 pub mod Codes
-pub mod Filled

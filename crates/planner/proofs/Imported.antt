@@ -17,7 +17,7 @@ use Rattle.import.specs.Entries.{imported, refusalNumber, Exact}
 use Rattle.models.specs.Models.{modelAnswer, modelLeft, ReadBack}
 use Rattle.models.proofs.Tested.{answer-counted}
 use Rattle.planner.specs.Imports.{entryLeft, leftoverLeft, ExactBy, modelCode, ReadBackBy}
-use Rattle.planner.proofs.Figures.{Small}
+use Rattle.solver.proofs.Small.{Small}
 use Rattle.planner.proofs.Seen.{refused}
 
 -- ---- One entry

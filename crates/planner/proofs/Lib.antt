@@ -2,3 +2,4 @@
 pub mod Figures
 pub mod Seen
 pub mod Imported
+pub mod Recorded

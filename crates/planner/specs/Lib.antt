@@ -2,3 +2,4 @@
 pub mod Calls
 pub mod Demand
 pub mod Imports
+pub mod Records

@@ -2,6 +2,7 @@
 // added, as C functions. Each returns 0 where it has a result, and else the refusal's number + 256
 // times what it carries.
 mod imports;
+mod record;
 
 ghost use Prim.Native.Nat.{_≤_};
 ghost use mathlib.Core.List.{[], _∷_};

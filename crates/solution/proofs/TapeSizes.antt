@@ -42,13 +42,14 @@ read-all s = go (length s) opened
 pub record Room (t : Tape) : Type 0 where
   pub states : t .n ≤ 6
   pub inputs : t .m ≤ 4
+  pub steps : t .horizon ≤ 12
   pub plan : planNumbers t ≤ 120
   pub multipliers : multiplierNumbers t ≤ 72
 
 pub room : (s : List ℕ) → Bytes s → Room (reading s .tape)
 room s b =
     ⊎-elim (λ e. accepted (reading s .tape) (legal s b e))
-    (λ e. rw e (record { states = omega arith; inputs = omega arith; plan = omega arith; multipliers = omega arith }))
+    (λ e. rw e (record { states = omega arith; inputs = omega arith; steps = omega arith; plan = omega arith; multipliers = omega arith }))
     (read-all s)
   where
     accepted : (t : Tape) → Legal t → Room t
@@ -57,6 +58,7 @@ room s b =
         record {
           states = l .states .1;
           inputs = l .inputs .1;
+          steps = l .steps .1;
           plan = omega (arith, mul-le-mul (l .steps .1) sum);
           multipliers = omega (arith, mul-le-mul (l .steps .1) (l .states .1));
         }

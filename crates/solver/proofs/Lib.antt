@@ -1,4 +1,5 @@
 -- Laws behind the proofs.
 pub mod Again
+pub mod Small
 pub mod Figures
 pub mod Written

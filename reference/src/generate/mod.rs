@@ -3,7 +3,8 @@
 //!
 //! [`tape`] gives a tape; [`case`] gives the same tape with slices to lend to the calls.
 //! [`given()`] gives a tape that lacks required places or does not. [`entries()`] and [`models()`]
-//! give what is to be imported.
+//! give what is to be imported. [`records`] has furnaces whose records have present numbers that
+//! look absent.
 
 pub mod commands;
 pub mod curves;
@@ -16,6 +17,7 @@ pub mod lent;
 pub mod models;
 pub mod random;
 pub mod rare;
+pub mod records;
 mod weights;
 
 pub use entries::{EntryKind, GeneratedEntry};

@@ -1,13 +1,14 @@
 use mathlib.Core.Path.{refl}
 use mathlib.Core.List.{[], _∷_}
 use native.Mathlib.Omega.{arith}
+use lib.ListN.{replicate, length-replicate}
 use lib.IntN.{pos}
 use borrow.Author.Needs.{needs}
 use mir.Syntax.{w64}
 use mir.Val.{SFits}
 use mir.Facts.{toZ-ofZ, toZ-pos}
+use Rattle.integer.proofs.Filled.{filled-none, filled-more, filled-whole}
 use Rattle.integer.proofs.Sizes.{fitting}
-use Rattle.numbers.proofs.Filled.{filled-none, filled-more, filled-whole}
 use Rattle.numbers.proofs.numbers_of.Statement.{statement}
 use Rattle.numbers.proofs.numbers_of.Tie as tie
 
@@ -104,7 +105,7 @@ returns c =
     let t = s .args .t1 in
     let gain : SFits w64 (t .gain) = omega (arith, fitting, s .pre .gain) in
     let wanted : SFits w64 (t .wanted) = omega (arith, fitting, s .pre .wanted) in
-    let f1 = filled-more 0 3 {new = p1 .put .last .0} (pos (t .n) ∷ pos (t .m) ∷ pos (t .horizon) ∷ []) refl (filled-none 118)
+    let f1 = filled-more 0 3 {new = p1 .put .last .0} (pos (t .n) ∷ pos (t .m) ∷ pos (t .horizon) ∷ []) refl (filled-none 118 {out = replicate 118 (pos 0)} (length-replicate 118 (pos 0)))
     (rw (toZ-pos w64 {n = t .n} (omega arith), toZ-pos w64 {n = t .m} (omega arith), toZ-pos w64 {n = t .horizon} (omega arith)) at (p1 .put .ensures)) in
     let f2 = filled-more 3 36 (t .a) (p2 .before .put-arg2 .given .0) f1 (p2 .put2 .ensures) in
     let f3 = filled-more 39 24 (t .b) (p3 .before .put-arg4 .given .0) f2 (p3 .put3 .ensures) in

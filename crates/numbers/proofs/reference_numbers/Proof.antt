@@ -1,9 +1,10 @@
 use mathlib.Core.Path.{_∙_}
 use mathlib.Core.List.{map}
-use lib.ListN.{length-map}
+use lib.ListN.{replicate, length-map, length-replicate}
+use lib.IntN.{pos}
 use borrow.Author.Needs.{needs}
+use Rattle.integer.proofs.Filled.{filled-none, filled-more, filled-whole}
 use Rattle.numbers.specs.Numbers.{markNumber}
-use Rattle.numbers.proofs.Filled.{filled-none, filled-more, filled-whole}
 use Rattle.numbers.proofs.reference_numbers.Statement.{statement}
 use Rattle.numbers.proofs.reference_numbers.Tie as tie
 
@@ -33,7 +34,7 @@ returns c =
     let curves = marks .before .before .before .before .before .args .t .curves in
     filled-whole
     (filled-more 120 120 (map markNumber (curves .given)) (length-map (curves .given) markNumber ∙ marks .before .mark-numbers-arg2 .given .0)
-    (filled-more 0 120 (curves .reference) (first .before .put-arg2 .given .0) (filled-none 240) (first .put .ensures))
+    (filled-more 0 120 (curves .reference) (first .before .put-arg2 .given .0) (filled-none 240 {out = replicate 240 (pos 0)} (length-replicate 240 (pos 0))) (first .put .ensures))
     (rw (marks .mark-numbers .ensures) at (last .put2 .ensures)))
 
 pub reference-numbers-spec : {M : Type 1} → statement M

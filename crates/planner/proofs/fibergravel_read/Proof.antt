@@ -3,7 +3,7 @@ use denote.Ref.{now}
 use borrow.Author.Needs.{needs}
 use Rattle.integer.proofs.Operand.{bytes-of}
 use Rattle.tape.proofs.Facts.{legal}
-use Rattle.planner.proofs.Figures.{small-read}
+use Rattle.solver.proofs.Small.{small-read}
 use Rattle.planner.proofs.fibergravel_read.Statement.{statement}
 use Rattle.planner.proofs.fibergravel_read.Tie as tie
 

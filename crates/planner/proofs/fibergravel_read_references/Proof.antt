@@ -1,7 +1,7 @@
 use mathlib.Core.Path.{refl}
 use denote.Ref.{now}
 use borrow.Author.Needs.{needs}
-use Rattle.planner.proofs.Figures.{small-read}
+use Rattle.solver.proofs.Small.{small-read}
 use Rattle.planner.proofs.fibergravel_read_references.Statement.{statement}
 use Rattle.planner.proofs.fibergravel_read_references.Tie as tie
 

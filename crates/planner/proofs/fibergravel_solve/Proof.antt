@@ -7,7 +7,7 @@ use mir.Facts.{toZ-pos}
 use Rattle.integer.proofs.Sizes.{called}
 use Rattle.integer.proofs.Operand.{bytes-of}
 use Rattle.solver.specs.declared.Solved.{Solved}
-use Rattle.planner.proofs.Figures.{SmallSolved, small-solved}
+use Rattle.solver.proofs.Small.{SmallSolved, small-solved}
 use Rattle.planner.proofs.Seen.{solved-promise}
 use Rattle.planner.proofs.fibergravel_solve.Statement.{statement}
 use Rattle.planner.proofs.fibergravel_solve.Tie as tie

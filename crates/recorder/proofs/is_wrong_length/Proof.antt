@@ -1,0 +1,32 @@
+use native.Mathlib.Omega.{arith}
+use borrow.Author.Needs.{needs}
+use borrow.Author.Tests.{eq-eqb, ne-eqb}
+use Rattle.records.proofs.Bytes.{service-room}
+use Rattle.recorder.proofs.is_wrong_length.Statement.{statement}
+use Rattle.recorder.proofs.is_wrong_length.Tie as tie
+
+returns : tie.Need-returns
+returns c = rw (ne-eqb _ _ (c .if1 .taken))
+
+mul-result : tie.Need-mul-result
+mul-result c = search needs
+
+add-result : tie.Need-add-result
+add-result c = search needs
+
+mul-result-2 : tie.Need-mul-result-2
+mul-result-2 c = let s = c .before .before .before .before in omega (arith, service-room (s .args .sizes) (s .pre))
+
+mul-result-3 : tie.Need-mul-result-3
+mul-result-3 c = let s = c .before .before .before .before in omega (arith, service-room (s .args .sizes) (s .pre))
+
+add-result-2 : tie.Need-add-result-2
+add-result-2 c = let s = c .before .before .before .before in omega (arith, service-room (s .args .sizes) (s .pre))
+
+returns-2 : tie.Need-returns-2
+returns-2 c = rw (eq-eqb _ _ (c .before .before .before .if1 .left))
+
+pub is-wrong-length-spec : {M : Type 1} → statement M
+is-wrong-length-spec =
+    tie.close
+    (tie.spec returns mul-result add-result mul-result-2 mul-result-3 add-result-2 returns-2)

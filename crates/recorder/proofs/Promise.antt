@@ -4,7 +4,7 @@ use mathlib.Core.Path.{_≡_, refl, sym, ap, _∙_}
 use mathlib.Core.Bool.{Bool, true, false, cond, not}
 use mathlib.Core.List.{List, [], _∷_}
 use native.Mathlib.Omega.{arith}
-use borrow.Author.Tests.{eqb-true, not-false}
+use borrow.Author.Tests.{eqb-true, not-false, eq-eqb, ne-eqb}
 use lib.Dec.{eqb}
 use lib.ListN.{length, take}
 use lib.Seq.{length-take-le}
@@ -22,6 +22,7 @@ use Rattle.tape.specs.declared.refusal.Refusal.the-variants.{Length}
 use Rattle.tape.specs.Reading.{reading}
 use Rattle.tape.specs.Refusals.{row}
 use Rattle.tape.specs.Tape.{zeros}
+use Rattle.judge.specs.Demand.{NoneCheaper}
 use Rattle.solver.specs.declared.Solved.{Solved}
 use Rattle.solver.specs.declared.Solved.the-variants.{Proved, Impossible, Refused}
 use Rattle.solver.specs.Demand.{Upheld}
@@ -30,7 +31,9 @@ use Rattle.solver.proofs.Again.{upheld}
 use Rattle.solution.specs.Solution.{planNumbers, multiplierNumbers}
 use Rattle.recorder.specs.declared.Recorded.{Recorded}
 use Rattle.records.specs.declared.Sizes.{Sizes}
-use Rattle.records.specs.Readers.{serviceLength, dutiesIn, numberBytes}
+use Rattle.records.specs.Readers.{serviceLength, serviceBytes, gapIn, dutiesIn, planIn, multipliersIn, numberBytes}
+use Rattle.records.specs.Records.{recordWith}
+use Rattle.records.specs.Records as records
 use Rattle.recorder.specs.Calls.{wrongLengths, afterRead, recordedAt, answerOf, laboratoryLeft, serviceLeft}
 use Rattle.recorder.specs.Demand.{UpheldIn}
 use Rattle.recorder.specs.Held.{KeptFits}
@@ -61,14 +64,12 @@ module _ (t : Tape) (before before′ : List ℕ) where
       let k = proved-length rounds gap d (omega (arith, m, f .sizes .inputs)) in
       let w : length (numberBytes 4 plan) ≡ 4 * planNumbers t = number-bytes-length 4 plan ∙ ap (λ (n : ℕ). 4 * n) (h .3 .long) in
       let duties : dutiesIn (t .m) l ≡ d = ap (λ (n : ℕ). dutiesIn n l) (sym m) ∙ duties-in rounds gap d (take-bounded (t .m) plan (h .3 .within)) in
-      rw (
-        plan-from l k z (numberBytes 4 plan) (numberBytes 4 y),
-        multipliers-from l k z (numberBytes 4 plan) (numberBytes 4 y) (4 * planNumbers t) w,
-        numbers-in plan (numberBytes 4 y) (h .3) (omega arith),
-        last-numbers-in y (h .4) (omega arith),
-        gap-in rounds gap d (h .1) (h .2),
-        duties,
-      ) (u .0, refl)
+      let service = serviceBytes (recordWith z rounds (records.Proved gap plan y)) in
+      let plans : planIn z service ≡ plan = rw (plan-from l k z (numberBytes 4 plan) (numberBytes 4 y)) (numbers-in plan (numberBytes 4 y) (h .3) (omega arith)) in
+      let multipliers : multipliersIn z service ≡ y =
+      rw (multipliers-from l k z (numberBytes 4 plan) (numberBytes 4 y) (4 * planNumbers t) w) (last-numbers-in y (h .4) (omega arith)) in
+      let none : NoneCheaper t (planIn z service) (multipliersIn z service) (gapIn l) = rw (plans, multipliers, gap-in rounds gap d (h .1) (h .2)) (u .0) in
+      (none, duties ∙ ap (take (t .m)) (sym plans))
   held (Impossible rounds) plan y u f = u
   held (Refused why) plan y u f = open-held why (row why .carries)
 
@@ -82,6 +83,13 @@ recording-held s b before before′ =
     held t before before′ (solving.answerOf t e) (solving.planLeft e plan) (solving.multipliersLeft e y) (upheld s plan y b) (recording-fits s b)
 
 -- ---- The call
+
+-- the two tests of lengths
+pub wrong-laboratory : (z : Sizes) (laboratory service : ℕ) → (laboratory ≡ 16 → ⊥) → true ≡ wrongLengths z laboratory service
+wrong-laboratory z laboratory service n = rw (ne-eqb laboratory 16 n)
+
+pub right-laboratory : (z : Sizes) (laboratory service : ℕ) → laboratory ≡ 16 → not (eqb service (serviceLength z)) ≡ wrongLengths z laboratory service
+right-laboratory z laboratory service e = rw (eq-eqb laboratory 16 e)
 
 pub right-lengths : (z : Sizes) (laboratory service : ℕ) → wrongLengths z laboratory service ≡ false → (laboratory ≡ 16) × (service ≡ serviceLength z)
 right-lengths z laboratory service e =

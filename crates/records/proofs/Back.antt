@@ -116,23 +116,31 @@ abbrev pub seenIn : List ℕ → Seen
 seenIn s =
     cond (eqb (kindIn s) 1) (readers.Proved (roundsIn s) (gapIn s) (dutiesIn (countIn s) s)) (cond (eqb (kindIn s) 2) (readers.Impossible (roundsIn s)) (readers.Open (roundsIn s)))
 
-pub seen-back : (r : Record) → Fits r → seenIn (laboratoryBytes (seen r)) ≡ seen r
-seen-back r f = go (r .outcome) (f .outcome)
+-- what its bytes have room for
+abbrev FitsSeen : Seen → Type 0
+FitsSeen (readers.Proved rounds gap duties) =
+    (rounds ≤ mostRounds) × (pos 0 ≼ gap) × (gap ≼ pos mostWanted) × (length duties ≤ 4) × Bounded mostNumber duties
+FitsSeen (readers.Impossible rounds) = rounds ≤ mostRounds
+FitsSeen (readers.Open rounds) = rounds ≤ mostRounds
+
+fits-seen : (r : Record) → Fits r → FitsSeen (seen r)
+fits-seen r f = go (r .outcome) (f .outcome)
   where
-    go : (o : Outcome) → FittingOutcome (r .sizes) o → seenIn (laboratoryBytes (seenOf (r .sizes .m) (r .rounds) o)) ≡ seenOf (r .sizes .m) (r .rounds) o
+    go : (o : Outcome) → FittingOutcome (r .sizes) o → FitsSeen (seenOf r o)
     go (Proved gap plan y) h =
-        let d = take (r .sizes .m) plan in
-        let few : length d ≤ 4 = omega (arith, length-take (r .sizes .m) plan, f .sizes .inputs) in
-        let p = proved-head (r .rounds) gap d few (f .rounds) in
-        rw (
-          p .0,
-          p .1,
-          p .2,
-          gap-in (r .rounds) gap d (h .1) (h .2),
-          duties-in (r .rounds) gap d (take-bounded (r .sizes .m) plan (h .3 .within)),
-        )
-    go (Impossible y) h = let u = unproved-head 2 (r .rounds) (omega arith) (f .rounds) in rw (u .0, u .1)
-    go Open h = let u = unproved-head 3 (r .rounds) (omega arith) (f .rounds) in rw (u .0, u .1)
+        (f .rounds, h .1, h .2, omega (arith, length-take (r .sizes .m) plan, f .sizes .inputs), take-bounded (r .sizes .m) plan (h .3 .within))
+    go (Impossible y) h = f .rounds
+    go Open h = f .rounds
+
+seen-in : (v : Seen) → FitsSeen v → seenIn (laboratoryBytes v) ≡ v
+seen-in (readers.Proved rounds gap duties) f =
+    let p = proved-head rounds gap duties (f .3) (f .0) in
+    rw (p .0, p .1, p .2, gap-in rounds gap duties (f .1) (f .2), duties-in rounds gap duties (f .4))
+seen-in (readers.Impossible rounds) f = let u = unproved-head 2 rounds (omega arith) f in rw (u .0, u .1)
+seen-in (readers.Open rounds) f = let u = unproved-head 3 rounds (omega arith) f in rw (u .0, u .1)
+
+pub seen-back : (r : Record) → Fits r → seenIn (laboratoryBytes (seen r)) ≡ seen r
+seen-back r f = seen-in (seen r) (fits-seen r f)
 
 -- ---- The whole record
 

@@ -26,13 +26,13 @@ pub data Seen : Type 0 where
   Impossible : ℕ → Seen
   Open : ℕ → Seen
 
-abbrev pub seenOf : ℕ → ℕ → Outcome → Seen
-seenOf m rounds (records.Proved gap plan y) = Proved rounds gap (take m plan)
-seenOf m rounds (records.Impossible y) = Impossible rounds
-seenOf m rounds records.Open = Open rounds
+abbrev pub seenOf : Record → Outcome → Seen
+seenOf r (records.Proved gap plan y) = Proved (r .rounds) gap (take (r .sizes .m) plan)
+seenOf r (records.Impossible y) = Impossible (r .rounds)
+seenOf r records.Open = Open (r .rounds)
 
 abbrev pub seen : Record → Seen
-seen r = seenOf (r .sizes .m) (r .rounds) (r .outcome)
+seen r = seenOf r (r .outcome)
 
 -- Kind, number of duties, rounds.
 abbrev pub head : ℕ → ℕ → ℕ → List ℕ

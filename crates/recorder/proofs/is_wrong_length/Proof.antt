@@ -1,12 +1,15 @@
 use native.Mathlib.Omega.{arith}
 use borrow.Author.Needs.{needs}
-use borrow.Author.Tests.{eq-eqb, ne-eqb}
 use Rattle.records.proofs.Bytes.{service-room}
+use Rattle.recorder.proofs.Promise.{wrong-laboratory, right-laboratory}
 use Rattle.recorder.proofs.is_wrong_length.Statement.{statement}
 use Rattle.recorder.proofs.is_wrong_length.Tie as tie
 
 returns : tie.Need-returns
-returns c = rw (ne-eqb _ _ (c .if1 .taken))
+returns c =
+    let a = c .before .args in
+    let test = c .if1 .taken in
+    wrong-laboratory (a .sizes) (a .laboratory) (a .service) (λ e. omega (arith, test))
 
 mul-result : tie.Need-mul-result
 mul-result c = search needs
@@ -24,7 +27,9 @@ add-result-2 : tie.Need-add-result-2
 add-result-2 c = let s = c .before .before .before .before in omega (arith, service-room (s .args .sizes) (s .pre))
 
 returns-2 : tie.Need-returns-2
-returns-2 c = rw (eq-eqb _ _ (c .before .before .before .if1 .left))
+returns-2 c =
+    let a = c .before .before .before .before .args in
+    right-laboratory (a .sizes) (a .laboratory) (a .service) (omega (arith, c .before .before .before .if1 .left))
 
 pub is-wrong-length-spec : {M : Type 1} → statement M
 is-wrong-length-spec =

@@ -34,10 +34,14 @@ static inline size_t read_bytes(const char *name, uint8_t *bytes, size_t room)
     return count;
 }
 
-/* Prints the refusal of a tape. */
+/* Prints a refusal, of a tape with the offset in it. */
 static inline void print_refused(uint64_t code)
 {
-    printf("refused %u at %" PRIu64 "\n", FIBERGRAVEL_REFUSAL(code), FIBERGRAVEL_CARRIED(code));
+    unsigned number = FIBERGRAVEL_REFUSAL(code);
+    if (number <= FIBERGRAVEL_OVERRUN)
+        printf("refused %u at %" PRIu64 "\n", number, FIBERGRAVEL_CARRIED(code));
+    else
+        printf("refused %u\n", number);
 }
 
 /* Ends the program where what it printed cannot be written. */

@@ -1,8 +1,8 @@
 /*
  * Fibergravel: the planning core of a sinter furnace. It reads a furnace tape, judges plans and
- * multipliers that it is shown, works out a plan with a proved gap, writes the record of a firing for the
- * laboratory and for the service, and turns a model in floats into commands of a tape. docs/TAPE.md has
- * the tape's format.
+ * multipliers that it is shown, says where a plan fails, works out a plan with a proved gap, writes the
+ * record of a firing for the laboratory and for the service, and turns a model in floats into commands of
+ * a tape. docs/TAPE.md has the tape's format.
  *
  * Link with libplanner.a, which `rt staticlib planner` writes to target/staticlib/. It is compiled for
  * x86-64 Linux, and needs memcpy and memset from outside and nothing else.
@@ -50,9 +50,9 @@ extern "C" {
 #endif
 
 /* The version of the calls, one number that compares: 100 times the first part plus the second. With 1.1
-   came curves, with 1.2 the imports, with 1.3 weights of 0, with 1.4 the record. */
+   came curves, with 1.2 the imports, with 1.3 weights of 0, with 1.4 the record, with 1.5 the report. */
 #define FIBERGRAVEL_VERSION_MAJOR 1
-#define FIBERGRAVEL_VERSION_MINOR 4
+#define FIBERGRAVEL_VERSION_MINOR 5
 #define FIBERGRAVEL_VERSION (100 * FIBERGRAVEL_VERSION_MAJOR + FIBERGRAVEL_VERSION_MINOR)
 
 /* The number of a refusal, and what it carries. */
@@ -86,7 +86,8 @@ enum {
     FIBERGRAVEL_ABSENT = 7,         /* at FF, something required was not given, or a curve lacks a step */
     FIBERGRAVEL_OVERRUN = 8,        /* bytes after FF: the offset after FF */
 
-    /* These carry 0. */
+    /* These carry 0. fibergravel_judge_report does not refuse 10, 11 and 13: there they are kinds of a
+       report, which has the place or the numbers. */
     FIBERGRAVEL_LENGTH = 9,         /* a lent slice has not the length that the tape asks for, or, of
                                        fibergravel_import_model, that n and m ask for; or the
                                        laboratory's has not 16 bytes */
@@ -135,6 +136,28 @@ enum {
 
 /* How many numbers fibergravel_judge_plan's out has. */
 enum { FIBERGRAVEL_JUDGE_PLAN_LENGTH = 1 };
+
+/* Places of fibergravel_judge_report's out, and how many numbers it has. The kind is 0 where the plan is
+   accepted, else FIBERGRAVEL_OFF_MODEL, FIBERGRAVEL_OVER_LIMIT or FIBERGRAVEL_WIDE. What the other places
+   hold goes by the kind, and those that it does not name are 0. */
+enum {
+    FIBERGRAVEL_REPORT_KIND = 0,
+    FIBERGRAVEL_JUDGE_REPORT_LENGTH = 5,
+
+    /* Accepted, kind 0. */
+    FIBERGRAVEL_REPORT_GAP = 1,
+
+    /* Off the model, or over a limit. */
+    FIBERGRAVEL_REPORT_STEP = 1,    /* k of u(k) and x(k + 1), from 0 */
+    FIBERGRAVEL_REPORT_COLUMN = 2,  /* the n states and then the m inputs, from 0 */
+    FIBERGRAVEL_REPORT_FOUND = 3,   /* the number that the plan has there */
+    FIBERGRAVEL_REPORT_DUE = 4,     /* the number that the model gives from those before it; over a
+                                       limit, lo where the number found is below it, else hi */
+
+    /* Wide. The gap is cost - floor. */
+    FIBERGRAVEL_REPORT_COST = 1,
+    FIBERGRAVEL_REPORT_FLOOR = 2    /* may be below 0 */
+};
 
 /* Places of fibergravel_solve's out, how many numbers it has, and the kinds. The third is of
    fibergravel_record only. */
@@ -204,6 +227,18 @@ uint64_t fibergravel_read_references(const uint8_t *tape, size_t tape_len,
 uint64_t fibergravel_judge_plan(const uint8_t *tape, size_t tape_len, const int32_t *plan, size_t plan_len,
                                 const int32_t *multipliers, size_t multipliers_len,
                                 int64_t out[FIBERGRAVEL_JUDGE_PLAN_LENGTH]);
+
+/*
+ * Judges a plan with multipliers as fibergravel_judge_plan does, and reports what it finds: the gap of an
+ * accepted plan; the place of a number that is off the model or over a limit, what is found there and
+ * what was due; or cost and floor, where the gap is above T. The place is the first that fails, step by
+ * step, the inputs of a step before its states: every number before it passes its tests, and no plan with
+ * the same numbers up to and including it is accepted, whatever the multipliers. Refusals 1 to 9 and 12,
+ * as fibergravel_judge_plan has them.
+ */
+uint64_t fibergravel_judge_report(const uint8_t *tape, size_t tape_len, const int32_t *plan, size_t plan_len,
+                                  const int32_t *multipliers, size_t multipliers_len,
+                                  int64_t out[FIBERGRAVEL_JUDGE_REPORT_LENGTH]);
 
 /*
  * Judges multipliers for impossibility. 0 is 'shown': no plan follows the tape. Refusals 1 to 9, 12 and 14.

@@ -1,4 +1,4 @@
-//! The eight calls with the numbers that they answer, one to one with C's.
+//! The nine calls with the numbers that they answer, one to one with C's.
 //!
 //! Each answers 0 where it has a result, which is then in what it was lent to write; else the
 //! refusal's number + 256 × what it carries, and then nothing that was lent has changed.
@@ -10,6 +10,15 @@ mod foreign {
         pub fn fibergravel_read(tape: *const u8, tape_len: usize, out: *mut i64) -> u64;
         pub fn fibergravel_read_references(tape: *const u8, tape_len: usize, out: *mut i64) -> u64;
         pub fn fibergravel_judge_plan(
+            tape: *const u8,
+            tape_len: usize,
+            plan: *const i32,
+            plan_len: usize,
+            multipliers: *const i32,
+            multipliers_len: usize,
+            out: *mut i64,
+        ) -> u64;
+        pub fn fibergravel_judge_report(
             tape: *const u8,
             tape_len: usize,
             plan: *const i32,
@@ -65,6 +74,9 @@ pub const READ_REFERENCES_LENGTH: usize = 240;
 /// How many numbers [`judge_plan`] writes.
 pub const JUDGE_PLAN_LENGTH: usize = 1;
 
+/// How many numbers [`judge_report`] writes.
+pub const JUDGE_REPORT_LENGTH: usize = 5;
+
 /// How many numbers [`solve`] writes.
 pub const SOLVE_LENGTH: usize = 7;
 
@@ -105,6 +117,31 @@ pub fn judge_plan(
     // place that the call writes. It keeps no pointer.
     unsafe {
         foreign::fibergravel_judge_plan(
+            tape.as_ptr(),
+            tape.len(),
+            plan.as_ptr(),
+            plan.len(),
+            multipliers.as_ptr(),
+            multipliers.len(),
+            out.as_mut_ptr(),
+        )
+    }
+}
+
+/// Judges a plan with multipliers as [`judge_plan`] does, and reports what it finds: 10, 11 and 13
+/// are no refusals here. `out`: 0 and the gap; 10 or 11, the step, the column (states, then
+/// inputs), the number found, and the model's number or the limit passed; or 13, cost and floor. It
+/// is 0 behind them.
+pub fn judge_report(
+    tape: &[u8],
+    plan: &[i32],
+    multipliers: &[i32],
+    out: &mut [i64; JUDGE_REPORT_LENGTH],
+) -> u64 {
+    // SAFETY: each pointer and the length after it are one slice's, read only, and `out` has the
+    // places that the call writes. It keeps no pointer.
+    unsafe {
+        foreign::fibergravel_judge_report(
             tape.as_ptr(),
             tape.len(),
             plan.as_ptr(),

@@ -1,10 +1,10 @@
 //! The proved sinter furnace planner for Rust programs.
 //!
-//! This crate links `libplanner.a`, which `rt staticlib planner` writes, and wraps its eight
-//! calls. Six take a tape's bytes; [`import_model`] writes the model's commands for a tape from
+//! This crate links `libplanner.a`, which `rt staticlib planner` writes, and wraps its nine
+//! calls. Seven take a tape's bytes; [`import_model`] writes the model's commands for a tape from
 //! floats, and [`import_entry`] rounds a single one. Every call may be lent anything: what the
-//! papers refuse comes back as a [`Refusal`], and then no lent number has changed. The crate needs
-//! `core` only.
+//! papers refuse comes back as a [`Refusal`], and then no lent number has changed; of a plan that
+//! fails, [`judge_report`] says where and why. The crate needs `core` only.
 //! `docs/TAPE.md` of the repository has the tape's format, `include/fibergravel.h` what a call
 //! needs of memory, stack and time.
 //!
@@ -49,11 +49,13 @@ extern crate std;
 pub mod calls;
 mod record;
 mod refusal;
+mod report;
 
 use core::array::from_fn;
 
 pub use record::{Duties, Kind, Multipliers, Numbers, Outcome, Plan, Record, Seen};
 pub use refusal::Refusal;
+pub use report::{judge_report, Column, Fault, Report};
 
 /// The most states, n.
 pub const MOST_STATES: usize = 6;
@@ -342,7 +344,8 @@ pub fn read_references(tape: &[u8]) -> Result<References, Refusal> {
 /// # Errors
 ///
 /// Refusals 1 to 8 of the tape; 9 where a slice has not the length of [`Tape::plan_length`] or
-/// [`Tape::multipliers_length`]; then 12 of the multipliers, 10 and 11 of the plan, and 13.
+/// [`Tape::multipliers_length`]; then 12 of the multipliers, 10 and 11 of the plan, and 13. Of the
+/// last three [`judge_report`] says more.
 pub fn judge_plan(tape: &[u8], plan: &[i32], multipliers: &[i32]) -> Result<i64, Refusal> {
     let mut out = [0; calls::JUDGE_PLAN_LENGTH];
     accepted(calls::judge_plan(tape, plan, multipliers, &mut out))?;
@@ -733,6 +736,7 @@ mod tests {
         assert_eq!(read(&[]), Err(cut));
         assert_eq!(read_references(&[]), Err(cut));
         assert_eq!(judge_plan(&[0xff], &[], &[]), Err(misplaced));
+        assert_eq!(judge_report(&[0xff], &[], &[1]), Err(misplaced));
         assert_eq!(judge_multipliers(&[0], &[1]), Err(unknown));
         assert_eq!(solve(&[0x10], &mut [], &mut [7]), Err(cut));
         assert_eq!(record(&[0xff], &mut [], &mut [7]), Err(misplaced));

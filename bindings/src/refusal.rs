@@ -53,7 +53,8 @@ pub enum Refusal {
     /// 9: a lent slice has not the length that the sizes ask for, the tape's or those of
     /// [`crate::import_model`], or the laboratory's is not of [`crate::LABORATORY_LENGTH`] bytes.
     Length,
-    /// 10: a state of the plan differs from the model.
+    /// 10: a state of the plan differs from the model. Of [`crate::judge_report`] this, 11 and 13
+    /// are no refusals but reports.
     OffModel,
     /// 11: a plan number outside lo to hi.
     OverLimit,

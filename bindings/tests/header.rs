@@ -26,6 +26,7 @@ fn sizes_and_lengths() {
         ("READ_LENGTH", calls::READ_LENGTH),
         ("READ_REFERENCES_LENGTH", calls::READ_REFERENCES_LENGTH),
         ("JUDGE_PLAN_LENGTH", calls::JUDGE_PLAN_LENGTH),
+        ("JUDGE_REPORT_LENGTH", calls::JUDGE_REPORT_LENGTH),
         ("SOLVE_LENGTH", calls::SOLVE_LENGTH),
         ("RECORD_LENGTH", calls::RECORD_LENGTH),
         ("LABORATORY_LENGTH", fibergravel::LABORATORY_LENGTH),
@@ -48,6 +49,46 @@ fn places_of_the_references() {
 /// The place that the header gives a name.
 fn place(name: &str) -> usize {
     number(name).expect("in the header") as usize
+}
+
+#[test]
+fn places_and_kinds_of_a_report() {
+    let tape = include_bytes!("../../examples/f.tape");
+    let kind = |name| ("REPORT_KIND", place(name) as i64);
+    let accepted = [("REPORT_KIND", 0), ("REPORT_GAP", 32768)];
+    let off_model = [
+        kind("OFF_MODEL"),
+        ("REPORT_STEP", 0),
+        ("REPORT_COLUMN", 0),
+        ("REPORT_FOUND", 103),
+        ("REPORT_DUE", 102),
+    ];
+    let over_limit = [
+        kind("OVER_LIMIT"),
+        ("REPORT_STEP", 0),
+        ("REPORT_COLUMN", 1),
+        ("REPORT_FOUND", -1),
+        ("REPORT_DUE", 0),
+    ];
+    let wide = [
+        kind("WIDE"),
+        ("REPORT_COST", 327680),
+        ("REPORT_FLOOR", -950272),
+    ];
+    for (plan, y, named) in [
+        ([4, 102], -16, &accepted[..]),
+        ([4, 103], -16, &off_model),
+        ([-1, 100], -16, &over_limit),
+        ([4, 102], 16, &wide),
+    ] {
+        let mut expected = [0; calls::JUDGE_REPORT_LENGTH];
+        for (name, number) in named {
+            expected[place(name)] = *number;
+        }
+        let mut out = [7; calls::JUDGE_REPORT_LENGTH];
+        assert_eq!(calls::judge_report(tape, &plan, &[y], &mut out), 0);
+        assert_eq!(out, expected);
+    }
 }
 
 #[test]

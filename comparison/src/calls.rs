@@ -8,13 +8,13 @@ use reference::cases::{read_numbers, reference_numbers};
 use reference::generate::Lent;
 use reference::record::{Kind, LABORATORY_LENGTH};
 use reference::{
-    judge_multipliers, judge_plan, read, record, solve, Furnace, Record, Refusal, Shown, Solved,
-    Whole,
+    judge_multipliers, judge_plan, read, record, solve, Furnace, Record, Refusal, Report, Shown,
+    Solved, Whole,
 };
 
 use crate::guard::{marks, Beside, Guarded, GUARD};
 
-/// The six calls that take a tape.
+/// The seven calls that take a tape.
 #[derive(Clone, Copy, Debug, PartialEq, Eq)]
 pub enum Call {
     /// Reads a tape.
@@ -23,6 +23,8 @@ pub enum Call {
     ReadReferences,
     /// Judges a plan with multipliers.
     JudgePlan,
+    /// Judges a plan with multipliers, and reports where it fails.
+    JudgeReport,
     /// Judges multipliers for impossibility.
     JudgeMultipliers,
     /// Solves.
@@ -32,11 +34,12 @@ pub enum Call {
 }
 
 impl Call {
-    /// The six.
-    pub const ALL: [Call; 6] = [
+    /// The seven.
+    pub const ALL: [Call; 7] = [
         Call::Read,
         Call::ReadReferences,
         Call::JudgePlan,
+        Call::JudgeReport,
         Call::JudgeMultipliers,
         Call::Solve,
         Call::Record,
@@ -48,6 +51,7 @@ impl Call {
             Call::Read => calls::READ_LENGTH,
             Call::ReadReferences => calls::READ_REFERENCES_LENGTH,
             Call::JudgePlan => calls::JUDGE_PLAN_LENGTH,
+            Call::JudgeReport => calls::JUDGE_REPORT_LENGTH,
             Call::JudgeMultipliers => 0,
             Call::Solve => calls::SOLVE_LENGTH,
             Call::Record => calls::RECORD_LENGTH,
@@ -75,6 +79,9 @@ pub struct Lending<'a> {
     /// The record of the tape, where a solve has led to it already. Rounds of the second program are
     /// dear, and need not be run again.
     pub record: Option<&'a Record>,
+    /// What [`Call::JudgePlan`] answers to the same slices, where it is known. The second program
+    /// need not judge them again for [`Call::JudgeReport`].
+    pub judged: Option<Result<Whole, Refusal>>,
 }
 
 /// FF behind a tape, which an end before FF would take for its own.
@@ -100,6 +107,7 @@ impl<'a> Lending<'a> {
                 LABORATORY_LENGTH + 3 + 4 * (plan.len() + multipliers.len()),
             ],
             record: None,
+            judged: None,
         }
     }
 
@@ -208,6 +216,9 @@ fn made(
         Call::JudgePlan => with_out(beside, |out| {
             calls::judge_plan(tape, plan.lent(), multipliers.lent(), out)
         }),
+        Call::JudgeReport => with_out(beside, |out| {
+            calls::judge_report(tape, plan.lent(), multipliers.lent(), out)
+        }),
         Call::JudgeMultipliers => with_out(beside, |_: &mut [i64; 0]| {
             calls::judge_multipliers(tape, multipliers.lent())
         }),
@@ -239,6 +250,8 @@ pub enum Answer {
     References(Result<Furnace, Refusal>),
     /// Of [`Call::JudgePlan`].
     Gap(Result<Whole, Refusal>),
+    /// Of [`Call::JudgeReport`].
+    Reported(Result<Report, Refusal>),
     /// Of [`Call::JudgeMultipliers`].
     Shown(Result<Shown, Refusal>),
     /// Of [`Call::Solve`].
@@ -257,6 +270,10 @@ pub fn by_reference(call: Call, lending: &Lending) -> (Answer, Left) {
         Call::Read => Answer::Read(read(tape)),
         Call::ReadReferences => Answer::References(read(tape)),
         Call::JudgePlan => Answer::Gap(judge_plan(tape, &plan, &multipliers)),
+        Call::JudgeReport => {
+            let judged = || judge_plan(tape, &plan, &multipliers);
+            Answer::Reported(Report::of_answer(lending.judged.unwrap_or_else(judged)))
+        }
         Call::JudgeMultipliers => Answer::Shown(judge_multipliers(tape, &multipliers)),
         Call::Solve => Answer::Solved(solve(tape, &mut plan, &mut multipliers)),
         Call::Record => Answer::Recorded(match lending.record {
@@ -297,6 +314,7 @@ fn numbers(answer: &Answer) -> Result<Vec<i64>, Refusal> {
             Ok(narrow_all(reference_numbers(furnace)))
         }
         Answer::Gap(gap) => Ok(vec![narrow((*gap)?)]),
+        Answer::Reported(report) => Ok((*report)?.numbers().map(narrow).to_vec()),
         Answer::Shown(shown) => {
             let Shown = (*shown)?;
             Ok(Vec::new())

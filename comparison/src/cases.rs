@@ -33,7 +33,7 @@ impl Comparison {
         self.counts.add_steps(tape, &furnace);
         self.read_references(&lending);
         for lent in &case.judged {
-            self.judge(tape, lent);
+            self.judge(tape, &furnace, lent);
         }
         // The slices' draws are the case's, these are the comparison's.
         let mut random = Random::new(!seed);
@@ -78,11 +78,15 @@ impl Comparison {
         }
     }
 
-    /// Judges a plan with its multipliers, and the multipliers alone.
-    fn judge(&mut self, tape: &[u8], lent: &Lent) {
-        let lending = Lending::of(lent, tape);
+    /// Judges a plan with its multipliers, without a report and with one, and the multipliers alone.
+    fn judge(&mut self, tape: &[u8], furnace: &Result<Furnace, Refusal>, lent: &Lent) {
+        let mut lending = Lending::of(lent, tape);
         if let (Answer::Gap(gap), _) = self.call(Call::JudgePlan, &lending) {
             self.counts.add_gap(gap);
+            lending.judged = Some(gap);
+        }
+        if let (Answer::Reported(report), _) = self.call(Call::JudgeReport, &lending) {
+            self.counts.add_report(furnace, &lent.plan, report);
         }
         if let (Answer::Shown(shown), _) = self.call(Call::JudgeMultipliers, &lending) {
             self.counts.add_shown(shown);

@@ -7,7 +7,7 @@ use std::process::{Command, ExitCode, Stdio};
 use crate::comparison::Comparison;
 use crate::guard::Beside;
 use crate::part::Part;
-use crate::{edges, given, imports, records, slip, weights};
+use crate::{edges, faults, given, imports, records, slip, weights};
 
 /// Says where a long run is once in so many tapes.
 const SAY_ONE_IN: u64 = 10_000;
@@ -48,9 +48,9 @@ fn text(error: std::io::Error) -> String {
     error.to_string()
 }
 
-/// Compares the cases, tapes with drawn places, entries and models of `count` seeds from
-/// `first_seed` on, every length, places left out and the slips, and prints what was tried. Fails
-/// where something differs or was never met.
+/// Compares the parts that have no seed, and the cases, tapes with drawn places, entries and models
+/// of `count` seeds from `first_seed` on, and prints what was tried. Fails where something differs
+/// or was never met.
 pub fn compare_here(count: u64, first_seed: u64) -> Result<(), String> {
     let mut comparison = Comparison::new(Beside::Guards, Some(slip::program()?));
     for edge in Part::EDGES {
@@ -105,6 +105,7 @@ pub fn add(comparison: &mut Comparison, part: Part) {
         Part::Missing => given::add_missing(comparison),
         Part::Slices => edges::add_slices(comparison),
         Part::Equal => edges::add_equal(comparison),
+        Part::Faults => faults::add_faults(comparison),
         Part::Weights => weights::add_weights(comparison),
         Part::Records => records::add_records(comparison),
         Part::Entries => imports::add_entries(comparison),

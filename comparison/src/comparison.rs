@@ -42,6 +42,14 @@ pub const PLAN_LENGTHS: &str = "plan lengths";
 pub const MULTIPLIER_LENGTHS: &str = "multiplier lengths";
 /// Of [`ALSO`]: multipliers whose floor is the ceiling.
 pub const EQUAL: &str = "floor equal to ceiling";
+/// Of [`ALSO`]: plans with one number put wrong.
+pub const ONE_FAULT: &str = "plans with one fault at every place";
+/// Of [`ALSO`]: plans with a state that is the model's and passes a limit.
+pub const LIMITS_PASSED: &str = "states that pass a limit at every place";
+/// Of [`ALSO`]: plans with two and with three numbers put wrong.
+pub const SEVERAL_FAULTS: &str = "plans with two faults and with three";
+/// Of [`ALSO`]: tapes whose T is a plan's gap or one below it.
+pub const GAPS: &str = "gaps of T and one above";
 /// Of [`ALSO`]: each byte as the weight of each column.
 pub const EVERY_WEIGHT: &str = "every weight of every column";
 /// Of [`ALSO`]: all weights 0 with all other numbers at their limits.
@@ -57,12 +65,12 @@ pub const ENTRIES: &str = "entries beside numbers, halves and powers of two";
 /// Of [`ALSO`]: models with slices of every length, and of sizes beside the range.
 pub const MODEL_LENGTHS: &str = "model lengths and sizes";
 /// Of [`ALSO`]: models with a faulty entry at every place.
-pub const FAULTS: &str = "faulty entries of models";
+pub const FAULTY_ENTRIES: &str = "faulty entries of models";
 /// Of [`ALSO`]: tapes with an imported model.
 pub const IMPORTED: &str = "imported models read from a tape";
 
 /// The names under [`ALSO`].
-const ALSO_NAMES: [&str; 17] = [
+const ALSO_NAMES: [&str; 21] = [
     CUT,
     JUDGED,
     TAPE_LENGTHS,
@@ -71,6 +79,10 @@ const ALSO_NAMES: [&str; 17] = [
     PLAN_LENGTHS,
     MULTIPLIER_LENGTHS,
     EQUAL,
+    ONE_FAULT,
+    LIMITS_PASSED,
+    SEVERAL_FAULTS,
+    GAPS,
     EVERY_WEIGHT,
     ALL_WEIGHTS_0,
     ONE_NUMBER,
@@ -78,7 +90,7 @@ const ALSO_NAMES: [&str; 17] = [
     RECORD_NUMBERS,
     ENTRIES,
     MODEL_LENGTHS,
-    FAULTS,
+    FAULTY_ENTRIES,
     IMPORTED,
 ];
 
@@ -110,6 +122,7 @@ impl Comparison {
         let curves = [NO_CURVE, SOME_CURVES, ALL_CURVES];
         counts.expect(REFERENCES, answers(&curves, &refusals));
         counts.expect(STEPS, step_refusals());
+        counts.expect_reports();
         counts.expect_given();
         counts.expect_imports();
         counts.expect_records();

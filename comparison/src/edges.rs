@@ -144,14 +144,19 @@ pub fn add_slices(comparison: &mut Comparison) {
         let (plan, multipliers) = (furnace.plan_length(), furnace.multipliers_length());
         for length in 0..=MOST_STEPS * (MOST_STATES + MOST_INPUTS) + 1 {
             let lent = lent::any_values(length, multipliers, &mut random);
-            for call in [Call::JudgePlan, Call::Solve] {
+            for call in [Call::JudgePlan, Call::JudgeReport, Call::Solve] {
                 let lending = Lending::new(PLAN_LENGTHS, &tape, &lent.plan, &lent.multipliers);
                 comparison.also(call, &lending);
             }
         }
         for length in 0..=MOST_STEPS * MOST_STATES + 1 {
             let lent = lent::any_values(plan, length, &mut random);
-            for call in [Call::JudgePlan, Call::JudgeMultipliers, Call::Solve] {
+            for call in [
+                Call::JudgePlan,
+                Call::JudgeReport,
+                Call::JudgeMultipliers,
+                Call::Solve,
+            ] {
                 let lending =
                     Lending::new(MULTIPLIER_LENGTHS, &tape, &lent.plan, &lent.multipliers);
                 comparison.also(call, &lending);

@@ -11,7 +11,7 @@ use reference::tape::{MOST_INPUTS, MOST_STATES};
 use reference::{import_entry, import_model, Entry, Refusal};
 
 use crate::calls::{narrow, refused, Call, Lending};
-use crate::comparison::{Comparison, ENTRIES, FAULTS, IMPORTED, MODEL_LENGTHS};
+use crate::comparison::{Comparison, ENTRIES, FAULTY_ENTRIES, IMPORTED, MODEL_LENGTHS};
 use crate::guard::{bits, marks, Beside, Guarded};
 use crate::wrapper;
 
@@ -299,11 +299,11 @@ fn add_faults(comparison: &mut Comparison, model: &Model, random: &mut Random) {
         for fault in [f64::NAN, f64::NEG_INFINITY, 1e300, 16_384.5 / 4096.0] {
             let mut model = model.clone();
             model.put(count, fault);
-            comparison.also_model(FAULTS, &model);
+            comparison.also_model(FAULTY_ENTRIES, &model);
             for behind in count + 1..entries {
                 model.put(behind, faulty_entry(random));
             }
-            comparison.also_model(FAULTS, &model);
+            comparison.also_model(FAULTY_ENTRIES, &model);
         }
     }
 }

@@ -1,6 +1,6 @@
 //! The command `memory`.
 
-use reference::count::{CALLS, GIVEN, IMPORTS, RECORDS};
+use reference::count::{CALLS, GIVEN, IMPORTS, RECORDS, REPORTS};
 use reference::generate::{kind, Kind};
 
 use crate::compare;
@@ -23,7 +23,7 @@ pub fn memory(count: u64, first_seed: u64) -> Result<(), String> {
     let of_calls = |heading: &str| {
         CALLS.contains(&heading)
             || IMPORTS.contains(&heading)
-            || [REFERENCES, GIVEN, RECORDS].contains(&heading)
+            || [REFERENCES, GIVEN, RECORDS, REPORTS].contains(&heading)
     };
     print!("{}", comparison.counts.text_of(of_calls));
     println!("{}", comparison.summary());

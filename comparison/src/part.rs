@@ -18,6 +18,8 @@ pub enum Part {
     Slices,
     /// Multipliers whose floor is the ceiling.
     Equal,
+    /// Plans that fail at every step and column, and gaps of T and one above.
+    Faults,
     /// Weights of 0 at the edges.
     Weights,
     /// Records of all sizes, and with numbers that look absent.
@@ -38,13 +40,14 @@ pub enum Part {
 
 impl Part {
     /// All that have no seed.
-    pub const EDGES: [Part; 10] = [
+    pub const EDGES: [Part; 11] = [
         Part::Slips,
         Part::Tapes,
         Part::Places,
         Part::Missing,
         Part::Slices,
         Part::Equal,
+        Part::Faults,
         Part::Weights,
         Part::Records,
         Part::Entries,
@@ -80,6 +83,7 @@ impl fmt::Display for Part {
             Part::Missing => f.write_str("missing"),
             Part::Slices => f.write_str("slices"),
             Part::Equal => f.write_str("equal"),
+            Part::Faults => f.write_str("faults"),
             Part::Weights => f.write_str("weights"),
             Part::Records => f.write_str("records"),
             Part::Entries => f.write_str("entries"),

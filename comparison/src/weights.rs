@@ -189,7 +189,9 @@ mod tests {
             };
             assert_eq!(judged(0, &mut random), Ok(0));
             assert_eq!(judged(1_000, &mut random), Ok(2_048_000 * count as i128));
-            assert_eq!(judged(16_777_216, &mut random), Err(Refusal::Wide));
+            let floor = -2_048 * 16_777_216 * count as i128;
+            let wide = Refusal::Wide { cost: 0, floor };
+            assert_eq!(judged(16_777_216, &mut random), Err(wide));
         }
     }
 }

@@ -7,7 +7,7 @@ use reference::cases::{read_numbers, reference_numbers};
 use reference::generate::Model;
 use reference::marks::Sizes;
 use reference::record::{Kind, Outcome, Record};
-use reference::{Entry, Refusal, Solved};
+use reference::{Entry, Fault, Refusal, Report, Solved};
 
 use crate::calls::{narrow, narrow_all, Answer, Call, Left, Lending};
 
@@ -31,6 +31,7 @@ pub fn difference(call: Call, lending: &Lending, answer: &Answer, left: &Left) -
             let found = planner::judge_plan(tape, &plan, &multipliers);
             other(found, expected, |found, gap| *found == narrow(*gap))
         }
+        (Call::JudgeReport, Answer::Reported(expected)) => report_difference(lending, expected),
         (Call::JudgeMultipliers, Answer::Shown(expected)) => {
             let found = planner::judge_multipliers(tape, &multipliers);
             other(found, expected, |planner::Shown, reference::Shown| true)
@@ -79,6 +80,46 @@ fn same_refusal(found: planner::Refusal, expected: Refusal) -> bool {
     found.number() == u64::from(expected.number())
         && found.carried() == carried
         && found.word() == expected.word()
+}
+
+/// What the wrapper reports on a plan, as a text, where numbers, column or words differ from the
+/// second program's.
+fn report_difference(lending: &Lending, expected: &Result<Report, Refusal>) -> Option<String> {
+    let tape = lending.tape;
+    let found = planner::judge_report(tape, lending.plan, lending.multipliers);
+    other(found, expected, |found, expected| {
+        // A tape that is accepted begins with command 10 and n.
+        let states = usize::from(tape[1]);
+        *found == report(*expected, states) && found.to_string() == expected.words(states)
+    })
+}
+
+/// The second program's report in the wrapper's type, for a tape with so many states.
+fn report(report: Report, states: usize) -> planner::Report {
+    match report {
+        Report::Accepted { gap } => planner::Report::Accepted { gap: narrow(gap) },
+        Report::OffModel(found) => planner::Report::OffModel(fault(found, states)),
+        Report::OverLimit(found) => planner::Report::OverLimit(fault(found, states)),
+        Report::Wide { cost, floor } => planner::Report::Wide {
+            cost: narrow(cost),
+            floor: narrow(floor),
+        },
+    }
+}
+
+/// The second program's fault in the wrapper's type.
+fn fault(fault: Fault, states: usize) -> planner::Fault {
+    let column = if fault.column < states {
+        planner::Column::State(fault.column)
+    } else {
+        planner::Column::Input(fault.column - states)
+    };
+    planner::Fault {
+        step: fault.step,
+        column,
+        found: narrow(fault.found),
+        due: narrow(fault.due),
+    }
 }
 
 /// What the wrapper says of an entry, as a text, where it differs from the second program.

@@ -1,7 +1,8 @@
 //! The public calls of document 01. Each takes the tape's bytes.
 
-use crate::floor::{gap, shows_impossibility, Multipliers, MULTIPLIER_RANGE};
-use crate::model::{next_state, Furnace, Plan, Whole};
+use crate::faults::faults;
+use crate::floor::{floor, gap, shows_impossibility, Multipliers, MULTIPLIER_RANGE};
+use crate::model::{cost, Furnace, Plan, Whole};
 use crate::refusal::Refusal;
 use crate::rounds::{run, Outcome, Round};
 use crate::tape::{self, MOST_INPUTS};
@@ -40,10 +41,16 @@ pub fn judge_plan(tape: &[u8], plan: &[i32], multipliers: &[i32]) -> Result<Whol
     require_plan_length(&furnace, plan)?;
     require_multipliers_length(&furnace, multipliers)?;
     let y = require_multipliers(&furnace, multipliers)?;
-    let plan = require_plan(&furnace, plan)?;
+    let plan = lent_plan(&furnace, plan);
+    if let Some(first) = faults(&furnace, &plan).first() {
+        return Err(*first);
+    }
     let gap = gap(&furnace, &plan, &y);
     if gap > furnace.wanted_gap {
-        return Err(Refusal::Wide);
+        return Err(Refusal::Wide {
+            cost: cost(&furnace, &plan),
+            floor: floor(&furnace, &y),
+        });
     }
     Ok(gap)
 }
@@ -133,36 +140,20 @@ fn require_multipliers(furnace: &Furnace, multipliers: &[i32]) -> Result<Multipl
     Ok(y)
 }
 
-/// The plan, tested from the front: the inputs of a step (11), then each state, 10 before 11.
-fn require_plan(furnace: &Furnace, numbers: &[i32]) -> Result<Plan, Refusal> {
+/// The numbers of a slice of the right length in the places of a plan. x(0) is the tape's.
+pub fn lent_plan(furnace: &Furnace, numbers: &[i32]) -> Plan {
     let mut plan = Plan {
         u: Vec::new(),
         x: vec![furnace.start.clone()],
     };
     for k in 0..furnace.horizon {
-        let mut u = Vec::new();
-        for j in 0..furnace.inputs {
-            let number = Whole::from(numbers[input_place(furnace, k, j)]);
-            if !furnace.input_column(j).contains(number) {
-                return Err(Refusal::OverLimit);
-            }
-            u.push(number);
-        }
-        let mut next = Vec::new();
-        for i in 0..furnace.states {
-            let number = Whole::from(numbers[state_place(furnace, k + 1, i)]);
-            if number != next_state(furnace, &plan.x[k], &u, i) {
-                return Err(Refusal::OffModel);
-            }
-            if !furnace.state_column(i).contains(number) {
-                return Err(Refusal::OverLimit);
-            }
-            next.push(number);
-        }
-        plan.u.push(u);
-        plan.x.push(next);
+        let number = |place: usize| Whole::from(numbers[place]);
+        let inputs = (0..furnace.inputs).map(|j| number(input_place(furnace, k, j)));
+        plan.u.push(inputs.collect());
+        let states = (0..furnace.states).map(|i| number(state_place(furnace, k + 1, i)));
+        plan.x.push(states.collect());
     }
-    Ok(plan)
+    plan
 }
 
 /// The plan slice holds u(0), x(1), u(1), x(2) and so on. This is the place of u(k,j).

@@ -9,6 +9,9 @@
 //! bit b of byte j is 1, bit 0 being the lowest. `count` has 48 bytes: three 64-bit words of what is
 //! asked for, each low byte first, and three of what is given.
 //!
+//! A refused `judge` says what the refusal reports: `refused 10 STEP COLUMN FOUND DUE`, `refused 11
+//! STEP COLUMN FOUND DUE`, `refused 13 COST FLOOR`. All others say what they carry, or `-`.
+//!
 //! ```text
 //! read HEX
 //! steps HEX
@@ -33,7 +36,7 @@ use crate::calls::{judge_multipliers, judge_plan, read, solve, Shown, Solved};
 use crate::import::{import_entry, import_model, Entry};
 use crate::marks::{count_missing, Marks, Sizes};
 use crate::model::{floor_div, Column, Furnace, Whole};
-use crate::refusal::Refusal;
+use crate::refusal::{Fault, Refusal};
 use crate::tape::{signed, unsigned, MOST_COLUMNS, MOST_INPUTS, MOST_STATES, MOST_STEPS};
 
 /// The expected output for a text of cases, or what is wrong with the text.
@@ -255,11 +258,22 @@ fn operands(bytes: &[u8]) -> Result<Vec<Whole>, String> {
     ])
 }
 
-/// The line of a refusal: its number, then what it carries.
+/// The line of a refusal: its number, then what it reports or carries.
 fn refused(refusal: Refusal) -> String {
-    match refusal.carried() {
-        Some(carried) => format!("refused {} {carried}\n", refusal.number()),
-        None => format!("refused {} -\n", refusal.number()),
+    let number = refusal.number();
+    match (refusal, refusal.carried()) {
+        (Refusal::OffModel(fault) | Refusal::OverLimit(fault), _) => {
+            let Fault {
+                step,
+                column,
+                found,
+                due,
+            } = fault;
+            format!("refused {number} {step} {column} {found} {due}\n")
+        }
+        (Refusal::Wide { cost, floor }, _) => format!("refused {number} {cost} {floor}\n"),
+        (_, Some(carried)) => format!("refused {number} {carried}\n"),
+        (_, None) => format!("refused {number} -\n"),
     }
 }
 

@@ -3,10 +3,12 @@
 mod given;
 mod import;
 mod record;
+mod report;
 
 pub use given::GIVEN;
 pub use import::IMPORTS;
 pub use record::RECORDS;
+pub use report::REPORTS;
 
 use std::collections::BTreeMap;
 
@@ -16,6 +18,7 @@ use crate::marks::Sizes;
 use crate::model::{Furnace, Whole};
 use crate::record::Record;
 use crate::refusal::Refusal;
+use crate::report::Report;
 use crate::shapes::{all_weights_0, curves, some_weight_0, Shape, SHAPES};
 use crate::tape::{
     operand_bytes, END, MOST_INPUTS, MOST_ROUNDS, MOST_STATES, MOST_STEPS, STEP_REFERENCE,
@@ -232,7 +235,9 @@ impl Counts {
         self.add_read(&furnace);
         self.add_steps(tape, &furnace);
         for lent in &case.judged {
-            self.add_gap(judge_plan(tape, &lent.plan, &lent.multipliers));
+            let judged = judge_plan(tape, &lent.plan, &lent.multipliers);
+            self.add_gap(judged);
+            self.add_report(&furnace, &lent.plan, Report::of_answer(judged));
             self.add_shown(judge_multipliers(tape, &lent.multipliers));
         }
         // The last slices lent have the right lengths.
@@ -366,6 +371,7 @@ fn up_to(most: usize) -> Vec<String> {
 pub fn count_cases(count: u64, first_seed: u64) -> Counts {
     let mut counts = Counts::of_calls();
     counts.expect(STEPS, step_refusals());
+    counts.expect_reports();
     counts.expect_given();
     counts.expect_imports();
     counts.expect_records();

@@ -1,16 +1,17 @@
 //! A second program for the sinter furnace planner.
 //!
 //! It is written from the papers alone, so that the planner's answers can be compared with it:
-//! document 01 ("Sinter furnace planner: tape, plan, gap") and requests 1 to 5 of document 02
+//! document 01 ("Sinter furnace planner: tape, plan, gap") and requests 1 to 6 of document 02
 //! ("Requests for later changes"), a reference for each step, models in floats, given marks,
-//! columns of weight 0 and firing records. It puts plainness before speed: the sums are written as
-//! the papers write them, and all whole numbers have 128 bits.
+//! columns of weight 0, firing records and the place where a plan fails. It puts plainness before
+//! speed: the sums are written as the papers write them, and all whole numbers have 128 bits.
 //!
 //! The modules follow document 01's sections: [`model`], [`tape`], [`floor`], [`rounds`],
 //! [`calls`], [`refusal`] and [`mod@slip`]; [`import`] is request 2, [`marks`] request 3, request
-//! 4's rule is [`floor::end_by_slope`], and [`mod@record`] is request 5. [`cases`] answers a text of
-//! test cases, [`generate`] makes tapes, plans, multipliers, entries and models from a seed, and
-//! [`count`] counts what they lead to, by rounds, sizes and [`shapes`].
+//! 4's rule is [`floor::end_by_slope`], [`mod@record`] is request 5, [`mod@faults`] and [`report`]
+//! are request 6. [`plan_file`] reads a plan from a text, [`cases`] answers a text of test cases,
+//! [`generate`] makes tapes, plans, multipliers, entries and models from a seed, and [`count`]
+//! counts what they lead to, by rounds, sizes and [`shapes`].
 #![forbid(unsafe_code)]
 #![deny(missing_docs)]
 // The loops name the paper's indexes k, i and j.
@@ -19,13 +20,16 @@
 pub mod calls;
 pub mod cases;
 pub mod count;
+pub mod faults;
 pub mod floor;
 pub mod generate;
 pub mod import;
 pub mod marks;
 pub mod model;
+pub mod plan_file;
 pub mod record;
 pub mod refusal;
+pub mod report;
 pub mod rounds;
 pub mod shapes;
 pub mod slip;
@@ -35,5 +39,6 @@ pub use calls::{judge_multipliers, judge_plan, read, solve, solve_traced, Shown,
 pub use import::{import_entry, import_model, Entry};
 pub use model::{Furnace, Whole};
 pub use record::{record, Record};
-pub use refusal::Refusal;
+pub use refusal::{Fault, Refusal};
+pub use report::{judge_report, Report};
 pub use slip::slip;

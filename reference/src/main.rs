@@ -2,12 +2,15 @@
 #![forbid(unsafe_code)]
 
 use std::env;
+use std::fs;
 use std::io::{self, Read, Write};
 use std::process::ExitCode;
 
 use reference::cases::expect;
 use reference::count::count_cases;
-use reference::{record, slip};
+use reference::plan_file::PlanFile;
+use reference::slip::refused;
+use reference::{record, report, slip};
 
 const HELP: &str = "\
 reference: a second program for the sinter furnace planner, written from the papers alone
@@ -19,6 +22,19 @@ reference record < TAPE
     Writes the firing record of the tape on standard input: a line `laboratory ..` and a line
     `service ..` with the bytes that each reader sees, two hex digits a byte, or the refusal as the
     slip has it. An open tape has a record.
+
+reference judge TAPE PLAN
+    Judges the plan in the file PLAN on the tape in the file TAPE and writes a line: the report on
+    it, or the refusal as the slip has it, without an offset where the tape is accepted.
+        gap GAP
+        step STEP, state STATE: NUMBER found, the model gives NUMBER
+        step STEP, input INPUT: NUMBER found, above the limit LIMIT
+        step STEP, input INPUT: NUMBER found, below the limit LIMIT
+        cost COST, floor FLOOR: the gap, GAP, is above the wanted one
+    A state can pass a limit as well. PLAN is a text of words: `plan` and then the plan's numbers,
+    `multipliers` and then the multipliers, with blanks and line ends between them. Exit status: 0
+    where there is a report, whatever it says; 1 for a refusal, and where a file cannot be read or
+    PLAN is no such text.
 
 reference expect < CASES
     Writes the output expected from the planner's test programs. CASES is a text, one case a
@@ -42,6 +58,9 @@ reference expect < CASES
     low byte first, then three of what is given.
     Each case gives one line:
         refused NUMBER CARRIED    CARRIED is an offset, R, an entry's count, or - for nothing
+        refused 10 STEP COLUMN FOUND DUE    of judge: the place, the number there, the model's
+        refused 11 STEP COLUMN FOUND DUE    of judge: the place, the number there, the limit
+        refused 13 COST FLOOR     of judge
         read ..                   118 numbers: n m N, A by rows of 6, B by rows of 4, w, lo,
                                   hi, r, h, x(0), g, R, T; places beyond the sizes are 0
         steps ..                  240 numbers: the reference of command 31 for column c and
@@ -73,16 +92,17 @@ reference generate [COUNT [SEED]]
     gives a drawn set of places, 50 entries and 2 models in floats, runs them through the calls and
     writes how often each answer and each refusal came, how often 'proved' and 'impossible' came by
     rounds, sizes, rare shapes, curves and weights of 0, what a solve came to with these, how often
-    a command 31 brought a refusal about, how many required places were missing, answers to entries
-    and models by kinds, sizes and rare shapes, and records by kind, m, rare shapes and wrong
-    lengths. Fails if a count is 0, which is to be expected of a small COUNT.
+    a command 31 brought a refusal about, the first faults of plans by kind, side and step, how many
+    faults plans had, gaps at T and one above it, how many required places were missing, answers to
+    entries and models by kinds, sizes and rare shapes, and records by kind, m, rare shapes and
+    wrong lengths. Fails if a count is 0, which is to be expected of a small COUNT.
 ";
 
 fn main() -> ExitCode {
     let arguments: Vec<String> = env::args().skip(1).collect();
     let words: Vec<&str> = arguments.iter().map(String::as_str).collect();
     match run(&words) {
-        Ok(()) => ExitCode::SUCCESS,
+        Ok(code) => code,
         Err(error) => {
             eprintln!("reference: {error}");
             ExitCode::FAILURE
@@ -91,21 +111,42 @@ fn main() -> ExitCode {
 }
 
 /// Runs a subcommand.
-fn run(words: &[&str]) -> Result<(), String> {
+fn run(words: &[&str]) -> Result<ExitCode, String> {
     match words {
-        ["--help" | "-h" | "help"] => write_out(HELP),
-        ["slip"] => write_out(&slip(&standard_input()?)),
-        ["record"] => write_out(&record::text(&standard_input()?)),
+        ["--help" | "-h" | "help"] => write_out(HELP)?,
+        ["slip"] => write_out(&slip(&standard_input()?))?,
+        ["record"] => write_out(&record::text(&standard_input()?))?,
+        ["judge", tape, plan] => return judge(tape, plan),
         ["expect"] => {
             let text = String::from_utf8(standard_input()?);
             let text = text.map_err(|_| "the cases are no text")?;
-            write_out(&expect(&text)?)
+            write_out(&expect(&text)?)?;
         }
-        ["generate"] => generate(10_000, 0),
-        ["generate", count] => generate(number(count)?, 0),
-        ["generate", count, seed] => generate(number(count)?, number(seed)?),
-        _ => Err("no such subcommand; see reference --help".to_string()),
+        ["generate"] => generate(10_000, 0)?,
+        ["generate", count] => generate(number(count)?, 0)?,
+        ["generate", count, seed] => generate(number(count)?, number(seed)?)?,
+        _ => return Err("no such subcommand; see reference --help".to_string()),
     }
+    Ok(ExitCode::SUCCESS)
+}
+
+/// Writes the report on a plan, or the refusal, which fails without another word.
+fn judge(tape: &str, plan: &str) -> Result<ExitCode, String> {
+    let bytes = file(tape)?;
+    let text = String::from_utf8(file(plan)?).map_err(|_| format!("{plan}: no text"))?;
+    let lent: PlanFile = text.parse().map_err(|error| format!("{plan}: {error}"))?;
+    let report = report::text(&bytes, &lent.plan, &lent.multipliers);
+    let code = match report {
+        Ok(_) => ExitCode::SUCCESS,
+        Err(_) => ExitCode::FAILURE,
+    };
+    write_out(&report.unwrap_or_else(refused))?;
+    Ok(code)
+}
+
+/// All bytes of a file.
+fn file(name: &str) -> Result<Vec<u8>, String> {
+    fs::read(name).map_err(|error| format!("{name}: {error}"))
 }
 
 /// Writes the counts, and fails if one is 0.

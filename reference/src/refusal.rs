@@ -1,6 +1,21 @@
 //! The refusals, 1 to 17.
 
-/// Why a call gives no answer. Each case holds what the refusal carries.
+use crate::model::Whole;
+
+/// A place of a lent plan that fails a test: what stands there, and what should.
+#[derive(Clone, Copy, Debug, PartialEq, Eq, PartialOrd, Ord)]
+pub struct Fault {
+    /// The step, k for u(k) and for x(k+1).
+    pub step: usize,
+    /// States 0 to n−1, then inputs n to n+m−1.
+    pub column: usize,
+    /// The number found there.
+    pub found: Whole,
+    /// For 10 the number that the model gives, for 11 the limit that was passed.
+    pub due: Whole,
+}
+
+/// Why a call gives no answer. Each case holds what the refusal carries and what it reports.
 #[derive(Clone, Copy, Debug, PartialEq, Eq, PartialOrd, Ord)]
 pub enum Refusal {
     /// 1: the tape ends inside a command, or before FF.
@@ -48,13 +63,18 @@ pub enum Refusal {
     /// 9: a lent slice has not the length that the sizes ask for, the tape's or an import's.
     Length,
     /// 10: a state of the plan differs from the model.
-    OffModel,
+    OffModel(Fault),
     /// 11: a plan number outside lo to hi.
-    OverLimit,
+    OverLimit(Fault),
     /// 12: a multiplier outside its range.
     Multiplier,
     /// 13: gap above T.
-    Wide,
+    Wide {
+        /// K of the plan.
+        cost: Whole,
+        /// The floor of the multipliers.
+        floor: Whole,
+    },
     /// 14: multipliers do not show impossibility.
     NotShown,
     /// 15: R rounds without 'proved' or 'impossible'.
@@ -88,10 +108,10 @@ impl Refusal {
             Refusal::Absent { offset } => (7, "absent", Some(offset)),
             Refusal::Overrun { offset } => (8, "overrun", Some(offset)),
             Refusal::Length => (9, "length", None),
-            Refusal::OffModel => (10, "off model", None),
-            Refusal::OverLimit => (11, "over limit", None),
+            Refusal::OffModel(_) => (10, "off model", None),
+            Refusal::OverLimit(_) => (11, "over limit", None),
             Refusal::Multiplier => (12, "multiplier", None),
-            Refusal::Wide => (13, "wide", None),
+            Refusal::Wide { .. } => (13, "wide", None),
             Refusal::NotShown => (14, "not shown", None),
             Refusal::Open { rounds } => (15, "open", Some(rounds as usize)),
             Refusal::NotFinite { entry } => (16, "not finite", entry),
@@ -110,7 +130,7 @@ impl Refusal {
     }
 
     /// An offset for 1 to 8, R for 15, an entry's count for 16 and 17; nothing for 9 to 14, for 5 of
-    /// an import, and for 16 and 17 of an entry alone.
+    /// an import, and for 16 and 17 of an entry alone. What 10, 11 and 13 report is no carried number.
     pub fn carried(self) -> Option<usize> {
         self.row().2
     }

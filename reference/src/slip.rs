@@ -25,8 +25,11 @@ pub fn slip(tape: &[u8]) -> String {
     }
 }
 
-/// The text of a tape's refusal.
-pub(crate) fn refused(refusal: Refusal) -> String {
-    let offset = refusal.carried().expect("a tape refusal carries an offset");
-    format!("refused {} at {offset}\n", refusal.number())
+/// The text of a refusal: a tape's has an offset, one of what is lent beside it has none.
+pub fn refused(refusal: Refusal) -> String {
+    let number = refusal.number();
+    match refusal.carried() {
+        Some(offset) => format!("refused {number} at {offset}\n"),
+        None => format!("refused {number}\n"),
+    }
 }

@@ -299,7 +299,8 @@ fn floor_and_gap_of_two_steps() {
         judge_plan(&tape, &[4, 102, 5, 105], &[-12, -8])
     };
     assert_eq!(judge(102_400), Ok(102_400));
-    assert_eq!(judge(102_399), Err(Refusal::Wide));
+    let (cost, floor) = (4096 * 58, 135_168);
+    assert_eq!(judge(102_399), Err(Refusal::Wide { cost, floor }));
 }
 
 #[test]

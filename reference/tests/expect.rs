@@ -16,6 +16,9 @@ fn every_call() {
          judge {f} / 4 102 / -16\n\
          judge {f}/3 102/-16\n\
          judge {f} / 4 103 / -16\n\
+         judge {f} / 41 103 / -16\n\
+         judge {f} / 4 102 / 0\n\
+         judge {f} / 4 102 / 16777217\n\
          \n\
          \x20 show {m9} / -100\n\
          show {m9} / 0\n\
@@ -29,7 +32,10 @@ fn every_call() {
     );
     let expected = "gap 32768\n\
         gap 4096\n\
-        refused 10 -\n\
+        refused 10 0 0 103 102\n\
+        refused 11 0 1 41 40\n\
+        refused 13 327680 0\n\
+        refused 12 -\n\
         shown\n\
         refused 14 -\n\
         proved 2 32768 4 0 0 0\nplan 4 102\nmultipliers -16\n\

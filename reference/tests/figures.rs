@@ -65,7 +65,8 @@ fn m6_floor_of_zero() {
 fn m7_wanted_gap() {
     let judge = |wanted| judge_plan(&tape_f_gap(wanted), &[4, 102], &[-16]);
     assert_eq!(judge(32_768), Ok(32_768));
-    assert_eq!(judge(32_767), Err(Refusal::Wide));
+    let (cost, floor) = (327_680, 294_912);
+    assert_eq!(judge(32_767), Err(Refusal::Wide { cost, floor }));
 }
 
 #[test]
@@ -287,7 +288,8 @@ fn two_states_two_inputs_two_steps() {
     assert_eq!(judge_plan(&tape, &PAIR_PLAN, &[1, 2, 3, -4]), Ok(1_525_205));
     let less = with_search(PAIR_FRONT, 1, 1, 1_525_204);
     let refused = judge_plan(&less, &PAIR_PLAN, &[1, 2, 3, -4]);
-    assert_eq!(refused, Err(Refusal::Wide));
+    let (cost, floor) = (4096 * 379, 27_179);
+    assert_eq!(refused, Err(Refusal::Wide { cost, floor }));
     // x(1,0) = 10 + 20 / 2 + 1 leaves nothing over.
     assert_eq!(residual(&f, &plan, 0, 0), 0);
     let off = Plan {

@@ -1,11 +1,13 @@
 //! Each refusal, in several places, and two refusals at once.
 
 mod refused;
+mod reported;
 mod tapes;
 
 use reference::generate::commands;
 use reference::*;
 use refused::*;
+use reported::*;
 use tapes::*;
 
 /// One state, one input, one step: 4 bytes.
@@ -29,10 +31,10 @@ fn numbers_words_and_carried() {
         (Refusal::Absent { offset: 3 }, "absent", Some(3)),
         (Refusal::Overrun { offset: 3 }, "overrun", Some(3)),
         (Refusal::Length, "length", None),
-        (Refusal::OffModel, "off model", None),
-        (Refusal::OverLimit, "over limit", None),
+        (off_model(1, 2, 3, 4), "off model", None),
+        (over_limit(1, 2, 3, 4), "over limit", None),
         (Refusal::Multiplier, "multiplier", None),
-        (Refusal::Wide, "wide", None),
+        (wide(4, 3), "wide", None),
         (Refusal::NotShown, "not shown", None),
         (Refusal::Open { rounds: 3 }, "open", Some(3)),
         (Refusal::NotFinite { entry: Some(3) }, "not finite", Some(3)),
@@ -372,54 +374,45 @@ fn refusal_9_length() {
 #[test]
 fn refusal_10_off_model() {
     for state in [101, 103, -102, i32::MIN, i32::MAX] {
-        assert_eq!(
-            judge_plan(&tape_f(), &[4, state], &[-16]),
-            Err(Refusal::OffModel)
-        );
+        let judged = judge_plan(&tape_f(), &[4, state], &[-16]);
+        assert_eq!(judged, Err(off_model(0, 0, state, 102)));
     }
     // Also outside its limits (200 to 300): 10 before 11.
-    assert_eq!(
-        judge_plan(&tape_m9(), &[4, 103], &[0]),
-        Err(Refusal::OffModel)
-    );
-    // The second state of the second step.
+    let judged = judge_plan(&tape_m9(), &[4, 103], &[0]);
+    assert_eq!(judged, Err(off_model(0, 0, 103, 102)));
+    // The second state of the second step: 24 + 4 + 2.
     let pair = with_search(PAIR_FRONT, 1, 1, u32::MAX);
-    let plan = [1, 2, 21, 24, 3, 4, 36, 31];
-    assert_eq!(judge_plan(&pair, &plan, &[0; 4]), Err(Refusal::OffModel));
-    // In step 0, before an input outside its limits in step 1.
-    let plan = [1, 2, 21, 25, 3000, 4, 36, 30];
-    assert_eq!(judge_plan(&pair, &plan, &[0; 4]), Err(Refusal::OffModel));
+    let judged = judge_plan(&pair, &[1, 2, 21, 24, 3, 4, 36, 31], &[0; 4]);
+    assert_eq!(judged, Err(off_model(1, 1, 31, 30)));
+    // In step 0, before an input outside its limits in step 1: 20 + 2 + 2.
+    let judged = judge_plan(&pair, &[1, 2, 21, 25, 3000, 4, 36, 30], &[0; 4]);
+    assert_eq!(judged, Err(off_model(0, 1, 25, 24)));
 }
 
 #[test]
 fn refusal_11_over_limit() {
     // An input, before its step's state is off the model.
-    for input in [-1, 41, i32::MIN, i32::MAX] {
-        assert_eq!(
-            judge_plan(&tape_f(), &[input, 0], &[-16]),
-            Err(Refusal::OverLimit)
-        );
+    for (input, limit) in [(-1, 0), (41, 40), (i32::MIN, 0), (i32::MAX, 40)] {
+        let judged = judge_plan(&tape_f(), &[input, 0], &[-16]);
+        assert_eq!(judged, Err(over_limit(0, 1, input, limit)));
     }
     // A state that meets the model: u 4 gives x 102, outside 200 to 300.
-    assert_eq!(
-        judge_plan(&tape_m9(), &[4, 102], &[0]),
-        Err(Refusal::OverLimit)
-    );
+    let judged = judge_plan(&tape_m9(), &[4, 102], &[0]);
+    assert_eq!(judged, Err(over_limit(0, 0, 102, 200)));
     // The second input of a step, before the first state, which is off the model.
     let pair = with_search(PAIR_FRONT, 1, 1, u32::MAX);
-    let plan = [1, 1001, 0, 0, 3, 4, 36, 30];
-    assert_eq!(judge_plan(&pair, &plan, &[0; 4]), Err(Refusal::OverLimit));
+    let judged = judge_plan(&pair, &[1, 1001, 0, 0, 3, 4, 36, 30], &[0; 4]);
+    assert_eq!(judged, Err(over_limit(0, 3, 1001, 1000)));
     // State 0 over its limit, before state 1, which is off the model: hi of state 0 is 20.
     let low = PAIR_FRONT.replace("30 00 18 FC E8 03", "30 00 18 FC 14 00");
     let low = with_search(&low, 1, 1, u32::MAX);
-    let plan = [1, 2, 21, 25, 3, 4, 36, 30];
-    assert_eq!(judge_plan(&low, &plan, &[0; 4]), Err(Refusal::OverLimit));
-    // Inputs at their ends are within.
-    assert_eq!(judge_plan(&tape_f(), &[0, 100], &[-16]), Err(Refusal::Wide));
-    assert_eq!(
-        judge_plan(&tape_f(), &[40, 120], &[-16]),
-        Err(Refusal::Wide)
-    );
+    let judged = judge_plan(&low, &[1, 2, 21, 25, 3, 4, 36, 30], &[0; 4]);
+    assert_eq!(judged, Err(over_limit(0, 0, 21, 20)));
+    // Inputs at their ends are within: 4096 × 10², and 4096 × (40² + 10²).
+    let judged = judge_plan(&tape_f(), &[0, 100], &[-16]);
+    assert_eq!(judged, Err(wide(409_600, 294_912)));
+    let judged = judge_plan(&tape_f(), &[40, 120], &[-16]);
+    assert_eq!(judged, Err(wide(6_963_200, 294_912)));
 }
 
 #[test]
@@ -433,9 +426,15 @@ fn refusal_12_multiplier() {
         let judged = judge_multipliers(&tape_m9(), &[multiplier]);
         assert_eq!(judged, Err(Refusal::Multiplier));
     }
-    for multiplier in [16_777_216, -16_777_216] {
+    // Both ends are within. At 2^24 the input is at 0 and the state at 1000, at −2^24 they are at 40
+    // and at −1000: 4096 × 890² − 2^36 × 1000 + 2^24 × 409,600 − 2^24 × 2048, and
+    // 4096 × (40² + 1110²) − 2^35 × 40 − 2^36 × 1000 − 2^24 × 409,600 − 2^24 × 2048.
+    for (multiplier, floor) in [
+        (16_777_216, -61_878_644_359_168),
+        (-16_777_216, -76_995_120_447_488),
+    ] {
         let judged = judge_plan(&tape_f(), &[4, 102], &[multiplier]);
-        assert_eq!(judged, Err(Refusal::Wide));
+        assert_eq!(judged, Err(wide(327_680, floor)));
     }
     // Only the last of four is outside; the plan is off the model in its first step.
     let pair = with_search(PAIR_FRONT, 1, 1, 0);
@@ -446,9 +445,10 @@ fn refusal_12_multiplier() {
 #[test]
 fn refusal_13_wide() {
     // y = 0: floor 0, so the gap is K = 327,680.
-    assert_eq!(judge_plan(&tape_f(), &[4, 102], &[0]), Err(Refusal::Wide));
+    let judged = judge_plan(&tape_f(), &[4, 102], &[0]);
+    assert_eq!(judged, Err(wide(327_680, 0)));
     let judge = |wanted| judge_plan(&tape_f_gap(wanted), &[4, 102], &[0]);
-    assert_eq!(judge(327_679), Err(Refusal::Wide));
+    assert_eq!(judge(327_679), Err(wide(327_680, 0)));
     assert_eq!(judge(327_680), Ok(327_680));
 }
 

@@ -185,7 +185,9 @@ fn a_state_with_limits_and_no_target() {
     let less = with_search(&front(FROM_110, 0, 1), 100, 3, 255);
     assert_eq!(slip(&less), "open\nrounds 3\n");
     assert_eq!(judge_plan(&tape, &[19, 110], &[-77]), Ok(256));
-    assert_eq!(judge_plan(&less, &[19, 110], &[-77]), Err(Refusal::Wide));
+    let (cost, floor) = (4096 * 361, 1_478_400);
+    let judged = judge_plan(&less, &[19, 110], &[-77]);
+    assert_eq!(judged, Err(Refusal::Wide { cost, floor }));
 }
 
 #[test]
@@ -238,7 +240,14 @@ fn the_last_temperature_within_reach() {
         let shown = judge_multipliers(&tape, &[-1]);
         let judged = judge_plan(&tape, &[40, 120], &[-1]);
         if by_hand > 0 {
-            assert_eq!((shown, judged), (Ok(Shown), Err(Refusal::OverLimit)));
+            let fault = Fault {
+                step: 0,
+                column: 0,
+                found: 120,
+                due: 121,
+            };
+            assert_eq!(shown, Ok(Shown));
+            assert_eq!(judged, Err(Refusal::OverLimit(fault)));
         } else {
             assert_eq!((shown, judged), (Err(Refusal::NotShown), Ok(2_048)));
         }

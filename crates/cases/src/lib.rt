@@ -167,7 +167,7 @@ fn wide(x: i32) -> usize {
     size(x as i64) as usize
 }
 
-// Writes a refusal: its number, and what it carries, a place or R, or `-`.
+// Writes a refusal: its number, and what it carries, or `-`.
 pub fn refused(why: Refusal) {
     print::word(b"refused");
     print::unsigned(number(why) as u64);
@@ -175,6 +175,16 @@ pub fn refused(why: Refusal) {
     match carried {
         Carried::Place(at) => print::unsigned(at as u64),
         Carried::Nothing => print::word(b" -"),
+        Carried::Fault(fault) => {
+            print::unsigned(fault.step as u64);
+            print::unsigned(fault.column as u64);
+            print::number(fault.found);
+            print::number(fault.due);
+        }
+        Carried::Span(span) => {
+            print::number(span.cost);
+            print::number(span.floor);
+        }
         Carried::Rounds(rounds) => print::unsigned(rounds as u64),
     }
 }

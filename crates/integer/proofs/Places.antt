@@ -90,6 +90,14 @@ module _ {w : ℕ} {f : ℕ → ℤ} {old new : List ℤ} (s : Stretch 0 w f old
 pub step-room : (d q k : ℕ) → q < k → d * q + d ≤ d * k
 step-room d q k h = let e : k ≡ q + 1 + (k - (q + 1)) = omega arith in subst (λ (x : ℕ). d * q + d ≤ d * x) (sym e) (omega arith)
 
+-- of two places, in steps of w numbers each, the earlier one is of an earlier step, or of the same
+pub earlier-step : (w k a l b : ℕ) → b < w → k * w + a < l * w + b → (k < l) ⊎ ((k ≡ l) × (a < b))
+earlier-step w k a l b u h =
+    ⊎-elim (λ e. inl e)
+    (λ e. ⊎-elim (λ g. let z : ⊥ = omega (arith, step-room w l k g) in absurd z)
+    (λ g. let same : k ≡ l = omega arith in let r = rw same at h in inr (same, omega (arith, r))) (lt-or-le l k))
+    (lt-or-le k l)
+
 pub zeros : (n p : ℕ) → at (replicate n (pos 0)) p ≡ pos 0
 zeros zero p = refl
 zeros (suc n) zero = refl

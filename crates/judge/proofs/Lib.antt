@@ -1,2 +1,3 @@
 -- Demand 3 over the definitions.
 pub mod Accepted
+pub mod Reasons

@@ -8,15 +8,12 @@ use Rattle.tape.specs.Reading.{reading}
 use Rattle.tape.specs.declared.Answer.{Answer}
 use Rattle.tape.specs.declared.Answer.the-variants as answer
 use Rattle.tape.specs.declared.Tape.{Tape}
-use Rattle.tape.specs.declared.refusal.Refusal.{Refusal}
-use Rattle.tape.specs.declared.refusal.Refusal.the-variants.{Length, OffModel, OverLimit, Multiplier, Wide, NotShown}
+use Rattle.tape.specs.declared.refusal.Refusal.the-variants.{Length, Multiplier, Wide, NotShown}
 use Rattle.problem.specs.Model.{problemOf, planOf, multipliersOf}
 use Rattle.problem.specs.Cost.{costOf}
 use Rattle.problem.specs.Dual.{floorOf, shows}
 use Rattle.lent.specs.declared.walk.Check.{Check}
 use Rattle.lent.specs.declared.walk.Check.the-variants as check
-use Rattle.lent.specs.declared.walk.Test.{Test}
-use Rattle.lent.specs.declared.walk.Test.the-variants as test
 use Rattle.lent.specs.Checks.{wrongPlanLength, wrongMultipliersLength, wrongMultipliers, planCheck}
 use Rattle.judge.specs.declared.Judged.{Judged}
 use Rattle.judge.specs.declared.Judged.the-variants.{Gap, Refused}
@@ -25,16 +22,12 @@ use Rattle.judge.specs.declared.Shown.the-variants as answers
 
 -- 13: the gap, cost minus floor, is above T
 unfoldable pub gapWithin : Tape → ℤ → ℤ → Judged
-gapWithin t cost floor = cond (ltZ (t .wanted) (cost -ℤ floor)) (Refused Wide) (Gap (cost -ℤ floor))
+gapWithin t cost floor = cond (ltZ (t .wanted) (cost -ℤ floor)) (Refused (Wide (record { cost = cost; floor = floor }))) (Gap (cost -ℤ floor))
 
 -- 10 and 11
-abbrev pub refusalOf : Test → Refusal
-refusalOf test.Model = OffModel
-refusalOf test.Limits = OverLimit
-
 abbrev pub afterCheck : Check → Judged → Judged
 afterCheck check.Passed passed = passed
-afterCheck (check.Failed failure) passed = Refused (refusalOf (failure .test))
+afterCheck (check.Failed why) passed = Refused why
 
 -- 9, 12, the plan, 13
 unfoldable pub judgedOn : Tape → List ℤ → List ℤ → Judged

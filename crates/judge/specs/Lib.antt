@@ -1,3 +1,4 @@
 -- The definitions that promises cite.
 pub mod Judging
 pub mod Demand
+pub mod Reasons

@@ -10,14 +10,13 @@ ghost use Rattle.problem.specs.Dual.{floor, shows};
 ghost use Rattle.primal.specs.Padded.{padded, paddedPlan};
 ghost use Rattle.primal.specs.Terms.{TermsOf};
 ghost use Rattle.primal.specs.Held.{BlankPlan, BlankMultipliers};
-ghost use Rattle.judge.specs.Judging.{gapWithin, judgedOn, judged, shownOn, shown, refusalOf};
+ghost use Rattle.judge.specs.Judging.{gapWithin, judgedOn, judged, shownOn, shown};
 ghost use Rattle.judge.specs.Demand.{Backed, Founded};
+ghost use Rattle.judge.specs.Reasons.{Reasoned};
 use dual::floor::floor_of;
 use lent::multipliers::is_any_outside;
 use lent::multipliers::padded_multipliers;
 use lent::walk::Check;
-use lent::walk::Failure;
-use lent::walk::Test;
 use lent::walk::checked_plan;
 use primal::cost::ceiling_of;
 use primal::cost::plan_cost;
@@ -27,6 +26,7 @@ use tape::Answer;
 use tape::Tape;
 use tape::read;
 use tape::refusal::Refusal;
+use tape::refusal::Span;
 
 pub enum Judged {
     Gap(i64),
@@ -42,6 +42,7 @@ pub enum Shown {
 pub fn judge_plan(tape: &[u8], plan: &[i32], multipliers: &[i32]) -> Judged
     ensures { λ r. ⌜ r ≡ judged (now (tape .entry)) (now (plan .entry)) (now (multipliers .entry)) ⌝ }
     ensures { λ r. ⌜ Backed r (reading (now (tape .entry)) .tape) (now (plan .entry)) (now (multipliers .entry)) ⌝ }
+    ensures { λ r. ⌜ Reasoned r (now (tape .entry)) (now (plan .entry)) (now (multipliers .entry)) ⌝ }
 {
     let result = read(tape);
     let answer = result.answer;
@@ -74,18 +75,7 @@ fn judge_on(t: Tape, plan: &[i32], multipliers: &[i32]) -> Judged
     let check = walk.check;
     match check {
         Check::Passed => judge_gap(t, terms, v, y),
-        Check::Failed(failure) => Judged::Refused(refusal_of(failure)),
-    }
-}
-
-// The refusal of a plan that fails a test: it carries nothing of what was found.
-fn refusal_of(failure: Failure) -> Refusal
-    ensures { λ r. ⌜ r ≡ refusalOf (failure .test) ⌝ }
-{
-    let test = failure.test;
-    match test {
-        Test::Model => Refusal::OffModel,
-        Test::Limits => Refusal::OverLimit,
+        Check::Failed(why) => Judged::Refused(why),
     }
 }
 
@@ -107,7 +97,11 @@ fn judge_gap(t: Tape, terms: Terms, v: [i64; 120], y: [i64; 72]) -> Judged
     let floor = tape_floor(t, terms, y);
     let gap = cost - floor;
     if t.wanted < gap {
-        return Judged::Refused(Refusal::Wide);
+        let span = Span {
+            cost: cost,
+            floor: floor,
+        };
+        return Judged::Refused(Refusal::Wide(span));
     }
     Judged::Gap(gap)
 }

@@ -15,6 +15,7 @@ use Rattle.integer.proofs.Places.{lt-or-le, stretch-bounded, stretch-cong}
 use Rattle.integer.proofs.Tests.{not-less, not-outside, range-size}
 use Rattle.commands.specs.Ranges.{mostNumber}
 use Rattle.tape.specs.declared.Tape.{Tape}
+use Rattle.tape.specs.declared.refusal.Refusal.{Refusal}
 use Rattle.tape.specs.Legal.{Legal}
 use Rattle.problem.specs.Model.{Term, problemOf, planOf, sumAt}
 use Rattle.primal.specs.Terms.{TermsOf}
@@ -24,7 +25,6 @@ use Rattle.primal.proofs.Padding.{model-padded}
 use Rattle.primal.proofs.HeldSteps.{model-held, held-next}
 use Rattle.lent.specs.declared.walk.Check.{Check}
 use Rattle.lent.specs.declared.walk.Check.the-variants.{Passed, Failed}
-use Rattle.lent.specs.declared.walk.Failure.{Failure}
 use Rattle.lent.specs.declared.walk.Test.{Test}
 use Rattle.lent.specs.declared.walk.Test.the-variants.{Limits}
 use Rattle.lent.specs.Checks.{orElse, first, tested, limits, meets, stateCheck, stepCheck}
@@ -40,7 +40,7 @@ pub first-passed : (n : ℕ) (f : ℕ → Check) → first n f ≡ Passed → f 
 unfolding first
 first-passed n f e d = ap (λ (k : ℕ). first k f) (add-one n) ∙ ap₂ orElse e d
 
-pub first-failed : {failure : Failure} (i n : ℕ) (f : ℕ → Check) → i < n → first i f ≡ Passed → f i ≡ Failed failure → first n f ≡ Failed failure
+pub first-failed : {why : Refusal} (i n : ℕ) (f : ℕ → Check) → i < n → first i f ≡ Passed → f i ≡ Failed why → first n f ≡ Failed why
 unfolding first
 first-failed i zero f h e d = let z : ⊥ = omega arith in absurd z
 first-failed i (suc n) f h e d =
@@ -54,7 +54,7 @@ first-cong (suc n) f g h = ap₂ orElse (first-cong n f g (λ j p. h j (omega ar
 
 pub both-passed : (c d : Check) → orElse c d ≡ Passed → (c ≡ Passed) × (d ≡ Passed)
 both-passed Passed d e = (refl, e)
-both-passed (Failed failure) d e = let z : _≡_ {A = ℕ} 0 1 = cc in absurd (omega arith)
+both-passed (Failed why) d e = let z : _≡_ {A = ℕ} 0 1 = cc in absurd (omega arith)
 
 pub first-each : (n : ℕ) (f : ℕ → Check) → first n f ≡ Passed → (j : ℕ) → j < n → f j ≡ Passed
 unfolding first
@@ -70,9 +70,9 @@ first-all (suc n) f h = ap₂ orElse (first-all n f (λ j l. h j (omega arith)))
 
 -- ---- What has passed lies within its limits, and so is no larger than they are
 
-passed-test : (test : Bool) (failure : Failure) (c : Check) → cond test (Failed failure) c ≡ Passed → (test ≡ false) × (c ≡ Passed)
-passed-test true failure c e = let z : _≡_ {A = ℕ} 0 1 = cc in absurd (omega arith)
-passed-test false failure c e = (refl, e)
+passed-test : (test : Bool) (why : Refusal) (c : Check) → cond test (Failed why) c ≡ Passed → (test ≡ false) × (c ≡ Passed)
+passed-test true why c e = let z : _≡_ {A = ℕ} 0 1 = cc in absurd (omega arith)
+passed-test false why c e = (refl, e)
 
 module _ (test : Test) (k c : ℕ) (lo hi v : ℤ) where
   pub passed-within : tested test k c lo hi v ≡ Passed → (lo ≼ v) × (v ≼ hi)
@@ -118,7 +118,7 @@ module _ {t : Tape} {penalty low high reference : List ℤ} (legal : Legal t) (t
   inputs-checked =
       first-cong (t .m) _ _ (λ j h. ap (λ (a : Term). limits k (t .n + j) (a .low) (a .high) (planOf (t .n) (t .m) l .u k j)) (sym (terms .input k j early h)))
 
-  pub step-failed : {failure : Failure} → inputsCheck t low high l k ≡ Failed failure → stepCheck (problemOf t) (planOf (t .n) (t .m) l) k ≡ Failed failure
+  pub step-failed : {why : Refusal} → inputsCheck t low high l k ≡ Failed why → stepCheck (problemOf t) (planOf (t .n) (t .m) l) k ≡ Failed why
   unfolding stepCheck
   step-failed e = ap₂ orElse (inputs-checked ∙ e) refl
 
@@ -158,4 +158,4 @@ module _ {t : Tape} {penalty low high reference : List ℤ} (legal : Legal t) (t
         let g = terms .tables .each p (omega arith) in
         state-size k i _ (at low p) (at high p) (at l (k * (t .n + t .m) + t .m + i)) (g .low) (g .high) (first-each (t .n) _ (sym e) i h))
         states)
-    held-where z (Failed failure) e states = tt
+    held-where z (Failed why) e states = tt

@@ -10,8 +10,8 @@ use Rattle.lent.specs.declared.walk.Check.the-variants.{Passed, Failed}
 
 abbrev pub FilledWhenPassed : Check → ℕ → ℕ → (ℕ → ℤ) → List ℤ → List ℤ → Type 0
 FilledWhenPassed Passed o w f old new = Stretch o w f old new
-FilledWhenPassed (Failed failure) o w f old new = Unit {0}
+FilledWhenPassed (Failed why) o w f old new = Unit {0}
 
 abbrev pub HeldWhenPassed : Check → ℕ → ℕ → ℕ → Plan → List ℤ → Type 0
 HeldWhenPassed Passed n m k v l = HeldPlan n m k v l
-HeldWhenPassed (Failed failure) n m k v l = Unit {0}
+HeldWhenPassed (Failed why) n m k v l = Unit {0}

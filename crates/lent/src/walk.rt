@@ -17,6 +17,8 @@ use primal::model::model_sum;
 use primal::model::state_of;
 use primal::terms::Terms;
 use tape::Tape;
+use tape::refusal::Fault;
+use tape::refusal::Refusal;
 
 // The tests of a plan's number: 10, against the model, and 11, against its limits.
 pub enum Test {
@@ -24,19 +26,9 @@ pub enum Test {
     Limits,
 }
 
-// What a test found: the number of a step and a column, and what was due there, the model's number
-// or the limit that it passed. x(k+1) is of step k; columns are states, then inputs.
-pub struct Failure {
-    pub test: Test,
-    pub step: usize,
-    pub column: usize,
-    pub found: i64,
-    pub due: i64,
-}
-
 pub enum Check {
     Passed,
-    Failed(Failure),
+    Failed(Refusal),
 }
 
 // The plan's numbers at padded places, where the check passed.
@@ -49,13 +41,16 @@ pub struct Walk {
 fn fail(test: Test, k: usize, column: usize, x: i64, due: i64) -> Check
     ensures { λ r. ⌜ r ≡ failed test k column x due ⌝ }
 {
-    Check::Failed(Failure {
-        test: test,
+    let fault = Fault {
         step: k,
         column: column,
         found: x,
         due: due,
-    })
+    };
+    match test {
+        Test::Model => Check::Failed(Refusal::OffModel(fault)),
+        Test::Limits => Check::Failed(Refusal::OverLimit(fault)),
+    }
 }
 
 // Whether x lies in low to high: a test of step k and a column.
@@ -94,8 +89,8 @@ fn check_inputs<'a>(
             Check::Passed => {
                 v[10 * k + j] = x;
             }
-            Check::Failed(failure) => {
-                return Check::Failed(failure);
+            Check::Failed(why) => {
+                return Check::Failed(why);
             }
         }
         j += 1;
@@ -112,7 +107,7 @@ fn check_state(k: usize, i: usize, s: i64, low: i64, high: i64, x: i64) -> Check
     let model = check_number(Test::Model, k, i, expected, expected, x);
     match model {
         Check::Passed => check_number(Test::Limits, k, i, low, high, x),
-        Check::Failed(failure) => Check::Failed(failure),
+        Check::Failed(why) => Check::Failed(why),
     }
 }
 
@@ -147,8 +142,8 @@ fn check_states<'a>(
             Check::Passed => {
                 v[10 * k + 4 + i] = x;
             }
-            Check::Failed(failure) => {
-                return Check::Failed(failure);
+            Check::Failed(why) => {
+                return Check::Failed(why);
             }
         }
         i += 1;
@@ -188,8 +183,8 @@ fn check_step(t: Tape, terms: Terms, plan: &[i32], v: [i64; 120], k: usize) -> W
                 plan: w,
             }
         }
-        Check::Failed(failure) => Walk {
-            check: Check::Failed(failure),
+        Check::Failed(why) => Walk {
+            check: Check::Failed(why),
             plan: w,
         },
     }
@@ -210,9 +205,9 @@ pub fn checked_plan(t: Tape, terms: Terms, plan: &[i32]) -> Walk
         let check = walk.check;
         match check {
             Check::Passed => {}
-            Check::Failed(failure) => {
+            Check::Failed(why) => {
                 return Walk {
-                    check: Check::Failed(failure),
+                    check: Check::Failed(why),
                     plan: v,
                 };
             }

@@ -1,5 +1,6 @@
 -- The figures of a judge's answer are at most 10,000, so that a refusal's code fits its word.
 use Prim.Native.Nat.{ℕ}
+use mathlib.Core.Path.{_≡_, refl}
 use mathlib.Core.Bool.{_||_}
 use mathlib.Core.List.{List}
 use native.Mathlib.Omega.{arith}
@@ -9,6 +10,7 @@ use Rattle.integer.proofs.Tests.{by-test}
 use Rattle.tape.specs.declared.Answer.{Answer}
 use Rattle.tape.specs.declared.Answer.the-variants as answer
 use Rattle.tape.specs.declared.Tape.{Tape}
+use Rattle.tape.specs.declared.refusal.Fault.{Fault}
 use Rattle.tape.specs.Reading.{reading}
 use Rattle.problem.specs.Model.{problemOf, planOf, multipliersOf}
 use Rattle.problem.specs.Cost.{costOf}
@@ -17,17 +19,18 @@ use Rattle.lent.specs.declared.walk.Check.{Check}
 use Rattle.lent.specs.declared.walk.Check.the-variants as check
 use Rattle.lent.specs.declared.walk.Test.{Test}
 use Rattle.lent.specs.declared.walk.Test.the-variants as test
-use Rattle.lent.specs.Checks.{planCheck, wrongMultipliers, wrongPlanLength, wrongMultipliersLength}
+use Rattle.lent.specs.Checks.{refusalOf, planCheck, wrongMultipliers, wrongPlanLength, wrongMultipliersLength}
+use Rattle.lent.proofs.Faults.{plan-failed}
 use Rattle.judge.specs.declared.Judged.{Judged}
 use Rattle.judge.specs.declared.Judged.the-variants as judging
 use Rattle.judge.specs.declared.Shown.{Shown}
 use Rattle.judge.specs.declared.Shown.the-variants as showing
-use Rattle.judge.specs.Judging.{gapWithin, refusalOf, afterCheck, judgedOn, judgedAfterRead, judged, shownOn, shownAfterRead, shown}
+use Rattle.judge.specs.Judging.{gapWithin, afterCheck, judgedOn, judgedAfterRead, judged, shownOn, shownAfterRead, shown}
 use Rattle.solver.proofs.Small.{Small, SmallRead, small-read}
 
-small-test : (t : Test) → Small (refusalOf t)
-small-test test.Model = omega arith
-small-test test.Limits = omega arith
+small-test : (t : Test) (fault : Fault) → Small (refusalOf t fault)
+small-test test.Model fault = omega arith
+small-test test.Limits fault = omega arith
 
 abbrev pub SmallJudged : Judged → Type 0
 SmallJudged (judging.Gap gap) = Unit {0}
@@ -40,14 +43,14 @@ small-judged s plan y = go (reading s .answer) (small-read s)
     t : Tape
     t = reading s .tape
 
-    checked : (c : Check) (cost floor : ℤ) → SmallJudged (afterCheck c (gapWithin t cost floor))
-    checked check.Passed cost floor = by-test SmallJudged (ltZ (t .wanted) (cost -ℤ floor)) (λ _. omega arith) (λ _. tt)
-    checked (check.Failed failure) cost floor = small-test (failure .test)
+    checked : (c : Check) (cost floor : ℤ) → planCheck (problemOf t) (planOf (t .n) (t .m) plan) ≡ c → SmallJudged (afterCheck c (gapWithin t cost floor))
+    checked check.Passed cost floor e = by-test SmallJudged (ltZ (t .wanted) (cost -ℤ floor)) (λ _. omega arith) (λ _. tt)
+    checked (check.Failed why) cost floor e = let f = plan-failed (problemOf t) (planOf (t .n) (t .m) plan) e in rw (f .is) (small-test (f .test) (f .fault))
 
     go : (a : Answer) → SmallRead a → SmallJudged (judgedAfterRead a (judgedOn t plan y))
     go answer.Accepted h =
         by-test SmallJudged (wrongPlanLength t plan || wrongMultipliersLength t y) (λ _. omega arith)
-        (λ _. by-test SmallJudged (wrongMultipliers y) (λ _. omega arith) (λ _. checked (planCheck (problemOf t) (planOf (t .n) (t .m) plan)) (costOf t plan) (floorOf t y)))
+        (λ _. by-test SmallJudged (wrongMultipliers y) (λ _. omega arith) (λ _. checked (planCheck (problemOf t) (planOf (t .n) (t .m) plan)) (costOf t plan) (floorOf t y) refl))
     go (answer.Refused why) h = h
 
 abbrev pub SmallShown : Shown → Type 0

@@ -3,3 +3,4 @@ pub mod Figures
 pub mod Seen
 pub mod Imported
 pub mod Recorded
+pub mod Reported

@@ -13,7 +13,7 @@ use Rattle.tape.specs.declared.Answer.{Answer}
 use Rattle.tape.specs.declared.Answer.the-variants as answer
 use Rattle.tape.specs.declared.Tape.{Tape}
 use Rattle.tape.specs.declared.refusal.Carried.{Carried}
-use Rattle.tape.specs.declared.refusal.Carried.the-variants.{Place, Nothing, Rounds}
+use Rattle.tape.specs.declared.refusal.Carried.the-variants.{Place, Nothing, Fault, Span, Rounds}
 use Rattle.tape.specs.declared.refusal.Refusal.{Refusal}
 use Rattle.tape.specs.declared.refusal.Refusal.the-variants.{Length}
 use Rattle.tape.specs.Reading.{reading}
@@ -44,6 +44,8 @@ small-carried : (z : Sizes) (why : Refusal) (c : Carried) → Small why → Smal
 small-carried z why (Rounds R) h = tt
 small-carried z why (Place at) h = h
 small-carried z why Nothing h = h
+small-carried z why (Fault fault) h = h
+small-carried z why (Span span) h = h
 
 small-of : (z : Sizes) (a : Solved) (plan y : List ℤ) → SmallSolved a → SmallRecording (recordOf z a plan y)
 small-of z (solved.Proved rounds gap first) plan y h = tt

@@ -55,9 +55,9 @@ rounds-by (solved.Refused why) before R h = record { within = λ e. absurd (refu
 
 -- ---- All clauses of a promise, from what the call of the crates below ensures and from the number and `out`
 
-pub judged-promise : {r : Judged} (j : Judged) (t : Tape) (plan y before : List ℤ) {number : ℕ} {out : List ℤ} → (r ≡ j) × Backed r t plan y →
+pub judged-promise : {r : Judged} (j : Judged) (t : Tape) (plan y before : List ℤ) {number : ℕ} {out : List ℤ} {R : Type 0} → (r ≡ j) × (Backed r t plan y × R) →
     number ≡ judgedCode j → out ≡ judgedLeft j before → (number ≡ judgedCode j) × ((out ≡ judgedLeft j before) × BackedBy number out t plan y)
-judged-promise j t plan y before h e o = (e, (o, rw (e, o) (backed-by j before plan y t (rw (h .0) at (h .1)))))
+judged-promise j t plan y before h e o = (e, (o, rw (e, o) (backed-by j before plan y t (rw (h .0) at (h .1 .0)))))
 
 pub shown-promise : {r : Shown} (j : Shown) (t : Tape) {number : ℕ} → (r ≡ j) × Founded r t → number ≡ shownCode j → (number ≡ shownCode j) × FoundedBy number t
 shown-promise j t h e = (e, rw e (founded-by j t (rw (h .0) at (h .1))))

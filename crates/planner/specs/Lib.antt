@@ -3,3 +3,4 @@ pub mod Calls
 pub mod Demand
 pub mod Imports
 pub mod Records
+pub mod Reports

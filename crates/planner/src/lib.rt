@@ -3,6 +3,7 @@
 // times what it carries.
 mod imports;
 mod record;
+mod report;
 
 ghost use Prim.Native.Nat.{_≤_};
 ghost use mathlib.Core.List.{[], _∷_};

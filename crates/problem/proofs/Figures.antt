@@ -74,7 +74,7 @@ abbrev pub table : List (ℤ × ℤ)
 table = rows (reading (bytes wide ample) .tape) (reading (bytes narrow ample) .tape)
 
 -- tape F in two steps, with a curve of 110 and 130 for the state
-abbrev ramp : List ℕ
+abbrev pub ramp : List ℕ
 ramp = bytesOf 0x02 (0x31 ∷ 0x00 ∷ 0x00 ∷ 0x6E ∷ 0x00 ∷ 0x31 ∷ 0x00 ∷ 0x01 ∷ 0x82 ∷ 0x00 ∷ []) wide 0x01 0x01 ample
 
 -- a plan for it

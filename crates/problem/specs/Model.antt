@@ -55,10 +55,17 @@ pub record Plan : Type 0 where
   pub u : ℕ → ℕ → ℤ
   pub x : ℕ → ℕ → ℤ
 
--- A lent plan holds u(0), x(1), u(1), x(2) and so on; lent multipliers are step by step.
-abbrev pub planOf : ℕ → ℕ → List ℤ → Plan
-planOf n m v = record { u = λ k j. at v (k * (n + m) + j); x = λ k i. at v (k * (n + m) + (m + i)) }
+-- A lent plan holds u(0), x(1), u(1), x(2) and so on: the places of u(k,j) and of x(k+1,i).
+abbrev pub inputPlace : ℕ → ℕ → ℕ → ℕ → ℕ
+inputPlace n m k j = k * (n + m) + j
 
+abbrev pub statePlace : ℕ → ℕ → ℕ → ℕ → ℕ
+statePlace n m k i = k * (n + m) + (m + i)
+
+abbrev pub planOf : ℕ → ℕ → List ℤ → Plan
+planOf n m v = record { u = λ k j. at v (inputPlace n m k j); x = λ k i. at v (statePlace n m k i) }
+
+-- Lent multipliers are step by step.
 abbrev pub multipliersOf : ℕ → List ℤ → ℕ → ℕ → ℤ
 multipliersOf n y k i = at y (k * n + i)
 

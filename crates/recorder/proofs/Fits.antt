@@ -22,7 +22,7 @@ use Rattle.tape.specs.declared.Answer.{Answer}
 use Rattle.tape.specs.declared.Answer.the-variants as answer
 use Rattle.tape.specs.declared.Tape.{Tape}
 use Rattle.tape.specs.declared.refusal.Carried.{Carried}
-use Rattle.tape.specs.declared.refusal.Carried.the-variants.{Place, Nothing, Rounds}
+use Rattle.tape.specs.declared.refusal.Carried.the-variants.{Place, Nothing, Fault, Span, Rounds}
 use Rattle.tape.specs.declared.refusal.Refusal.{Refusal}
 use Rattle.tape.specs.Legal.{Legal}
 use Rattle.tape.specs.Reading.{reading}
@@ -140,6 +140,8 @@ module _ (s : List ℕ) (b : Bytes s) where
   open-fits why (Rounds R) h = record { sizes = fitting; rounds = h; outcome = tt }
   open-fits why (Place at) h = tt
   open-fits why Nothing h = tt
+  open-fits why (Fault fault) h = tt
+  open-fits why (Span span) h = tt
 
   answer-fits : (a : Solved) (plan y : List ℤ) → JudgedAgain a s plan y → Upheld a t plan y → SmallSolved a → KeptFits (recordOf (sizesOf t) a plan y)
   answer-fits (Proved rounds gap first) plan y j u h =

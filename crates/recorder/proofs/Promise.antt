@@ -16,7 +16,7 @@ use Rattle.tape.specs.declared.Answer.{Answer}
 use Rattle.tape.specs.declared.Answer.the-variants as answer
 use Rattle.tape.specs.declared.Tape.{Tape}
 use Rattle.tape.specs.declared.refusal.Carried.{Carried}
-use Rattle.tape.specs.declared.refusal.Carried.the-variants.{Place, Nothing, Rounds}
+use Rattle.tape.specs.declared.refusal.Carried.the-variants.{Place, Nothing, Fault, Span, Rounds}
 use Rattle.tape.specs.declared.refusal.Refusal.{Refusal}
 use Rattle.tape.specs.declared.refusal.Refusal.the-variants.{Length}
 use Rattle.tape.specs.Reading.{reading}
@@ -53,6 +53,8 @@ module _ (t : Tape) (before before′ : List ℕ) where
   open-held why (Rounds R) = tt
   open-held why (Place at) = tt
   open-held why Nothing = tt
+  open-held why (Fault fault) = tt
+  open-held why (Span span) = tt
 
   held : (a : Solved) (plan y : List ℤ) → Upheld a t plan y → KeptFits (recordOf (sizesOf t) a plan y) → Held (recordOf (sizesOf t) a plan y)
   held (Proved rounds gap first) plan y u f =

@@ -4,7 +4,7 @@ use mathlib.Core.List.{List}
 use lib.IntN.{ℤ}
 use Rattle.tape.specs.declared.Tape.{Tape}
 use Rattle.tape.specs.declared.refusal.Carried.{Carried}
-use Rattle.tape.specs.declared.refusal.Carried.the-variants.{Place, Nothing, Rounds}
+use Rattle.tape.specs.declared.refusal.Carried.the-variants.{Place, Nothing, Fault, Span, Rounds}
 use Rattle.tape.specs.declared.refusal.Refusal.{Refusal}
 use Rattle.tape.specs.Reading.{reading}
 use Rattle.tape.specs.Refusals.{row}
@@ -29,6 +29,8 @@ abbrev pub unanswered : Sizes → Refusal → Carried → Recording
 unanswered z why (Rounds R) = Kept (recordWith z R Open)
 unanswered z why (Place at) = Refused why
 unanswered z why Nothing = Refused why
+unanswered z why (Fault fault) = Refused why
+unanswered z why (Span span) = Refused why
 
 -- From what a solve answers, and the plan and the multipliers that it leaves.
 abbrev pub recordOf : Sizes → Solved → List ℤ → List ℤ → Recording

@@ -119,5 +119,7 @@ fn write_unanswered(
         }
         Carried::Place(_) => Recorded::Refused(why),
         Carried::Nothing => Recorded::Refused(why),
+        Carried::Fault(_) => Recorded::Refused(why),
+        Carried::Span(_) => Recorded::Refused(why),
     }
 }

@@ -4,7 +4,7 @@ use mathlib.Core.List.{List, [], _∷_, _++_}
 use lib.ListN.{length, take, replicate}
 use lib.IntN.{ℤ}
 use Rattle.tape.specs.declared.refusal.Carried.{Carried}
-use Rattle.tape.specs.declared.refusal.Carried.the-variants.{Place, Nothing, Rounds}
+use Rattle.tape.specs.declared.refusal.Carried.the-variants.{Place, Nothing, Fault, Span, Rounds}
 use Rattle.tape.specs.Refusals.{row}
 use Rattle.solver.specs.declared.Duties.{Duties}
 use Rattle.solver.specs.declared.Solved.{Solved}
@@ -41,11 +41,13 @@ firstLine m first = line (text "first" ++ spaced (duties m first))
 abbrev pub refusedNumber : ℕ → List ℕ
 refusedNumber number = text "refused " ++ decimal number
 
--- A refusal by its number and what it carries: a tape's refusal has an offset, 'open' the rounds. The refusals 9 to 14
--- carry nothing; the printing program never meets one, since it lends slices of the right lengths and judges nothing.
+-- A refusal by its number and what it carries: a tape's refusal has an offset, 'open' the rounds. The printing program never meets
+-- 9 to 14, since it lends slices of the right lengths and judges nothing; they have their number alone.
 abbrev pub refusalLines : ℕ → Carried → List ℕ
 refusalLines number (Place at) = line (refusedNumber number ++ (text " at " ++ decimal at))
 refusalLines number Nothing = line (refusedNumber number)
+refusalLines number (Fault fault) = line (refusedNumber number)
+refusalLines number (Span span) = line (refusedNumber number)
 refusalLines number (Rounds R) = line (text "open") ++ roundsLine R
 
 -- The slip of a solve's answer, for m inputs.

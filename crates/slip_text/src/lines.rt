@@ -84,6 +84,12 @@ fn refused_number(number: usize) -> Text
     named.with_number(number as u64)
 }
 
+fn refused_alone(number: usize) -> Text
+    ensures { λ r. ⌜ Holds r (refusalLines number Carried.Nothing) ⌝ }
+{
+    refused_number(number).with_word(b"\n")
+}
+
 fn refused_at(number: usize, at: usize) -> Text
     ensures { λ r. ⌜ Holds r (refusalLines number (Carried.Place at)) ⌝ }
 {
@@ -100,7 +106,9 @@ pub fn refused(why: Refusal) -> Text
     let carried = carries(why);
     match carried {
         Carried::Place(at) => refused_at(n, at),
-        Carried::Nothing => refused_number(n).with_word(b"\n"),
+        Carried::Nothing => refused_alone(n),
+        Carried::Fault(_) => refused_alone(n),
+        Carried::Span(_) => refused_alone(n),
         Carried::Rounds(rounds) => kind_and_rounds(b"open\n", rounds),
     }
 }

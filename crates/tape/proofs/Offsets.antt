@@ -1,5 +1,5 @@
 -- How far the commands of a tape reach: each but 10 marks a place that had no mark, so they soon end. No accepted tape is longer, and
--- no refusal carries a larger number.
+-- a refusal, one of 1 to 8, carries no larger number.
 use Prim.Native.Nat.{ℕ, zero, suc, _+_, _<_, _≤_}
 use mathlib.Core.Path.{_≡_, refl, ap, _∙_}
 use mathlib.Core.Bool.{Bool, true, false, cond}
@@ -24,8 +24,7 @@ use Rattle.tape.specs.declared.reader.Verdict.{Verdict}
 use Rattle.tape.specs.declared.reader.Verdict.the-variants.{Going, Ended, Refused}
 use Rattle.tape.specs.Tape.{with}
 use Rattle.tape.specs.Reading.{sized, next, outcome, readFrom, opened, reading}
-use Rattle.tape.specs.Refusals.{row, figure}
-use Rattle.tape.proofs.Steps.{same-sizes, SmallTape, small-opened, small-next, next-leads}
+use Rattle.tape.proofs.Steps.{OfTape, same-sizes, SmallTape, small-opened, small-next, next-leads}
 
 -- ---- The bytes of the commands that may still come
 
@@ -63,7 +62,7 @@ near-opened = record { long = refl; reach = omega arith }
 abbrev pub Stays : ℕ → ℕ → Verdict → Reader → Type 0
 Stays long from Going r = (from < r .at) × Near r
 Stays long from Ended r = long ≤ mostBytes + 1
-Stays long from (Refused why) r = figure (row why .carries) ≤ decidingBytes
+Stays long from (Refused why) r = OfTape decidingBytes why
 
 pub next-stays : (s : List ℕ) (q : Reader) → SmallTape (q .tape) → Near q → let r = next s q in Stays (length s) (q .at) (r .verdict) r
 unfolding wrongSize bytesAhead decidingBytes
@@ -96,7 +95,7 @@ next-stays s q small n =
 -- of a tape that is so long
 abbrev pub Bounds : ℕ → Answer → Type 0
 Bounds long answer.Accepted = long ≤ mostBytes + 1
-Bounds long (answer.Refused why) = figure (row why .carries) ≤ decidingBytes
+Bounds long (answer.Refused why) = OfTape decidingBytes why
 
 pub bounds : (s : List ℕ) → Bounds (length s) (reading s .answer)
 unfolding reading readFrom decidingBytes

@@ -26,10 +26,14 @@ use Rattle.tape.specs.Refusals.{row, figure}
 use Rattle.tape.specs.Tape.{withSize, with}
 use Rattle.tape.specs.Reading.{refuse, refuseWhen, sized, absent, obeySize, obeyEntry, obeyEnd, obey, next, outcome, readFrom, opened}
 
+-- 1 to 8, with a figure that is at most so large
+abbrev pub OfTape : ℕ → Refusal → Type 0
+OfTape most why = (row why .number ≤ 8) × (figure (row why .carries) ≤ most)
+
 -- ---- What the next command leads to: to a reader of which P holds, if P holds where the command is refused and where it is obeyed
 
 pub record Leads (P : Reader → Type 0) (s : List ℕ) (q : Reader) : Type 0 where
-  pub refused : (why : Refusal) → figure (row why .carries) ≤ q .at + 1 → P (refuse why q)
+  pub refused : (why : Refusal) → OfTape (q .at + 1) why → P (refuse why q)
   pub size : (n m horizon : ℕ) → sized (q .tape) ≡ false → wrongSize n m horizon ≡ false →
       P (record { at = q .at + sizeBytes; verdict = Going; tape = withSize (q .tape) n m horizon; given = q .given })
   pub entry : (e : Entry) → decoded s (q .at) ≡ command.Give e →
@@ -39,21 +43,17 @@ pub record Leads (P : Reader → Type 0) (s : List ℕ) (q : Reader) : Type 0 wh
       P (record { at = q .at; verdict = Ended; tape = q .tape; given = q .given })
 
 module _ (P : Reader → Type 0) (s : List ℕ) (q : Reader) (k : Leads P s q) where
-  passed : (test : Bool) (why : Refusal) {r : Reader} → figure (row why .carries) ≤ q .at + 1 → (test ≡ false → P r) → P (refuseWhen test why q r)
+  passed : (test : Bool) (why : Refusal) {r : Reader} → OfTape (q .at + 1) why → (test ≡ false → P r) → P (refuseWhen test why q r)
   passed test why h f = by-test P test (λ _. k .refused why h) f
-
-  -- most refusals carry the command's own offset
-  here : q .at ≤ q .at + 1
-  here = omega arith
 
   obeyed : (c : Command) → decoded s (q .at) ≡ c → P (obey c s q)
   unfolding obey obeySize obeyEntry obeyEnd
-  obeyed command.Unknown d = k .refused _ here
-  obeyed command.Cut d = k .refused _ here
-  obeyed (command.Size n m horizon) d = passed _ _ here (λ u. passed _ _ here (λ w. k .size n m horizon u w))
+  obeyed command.Unknown d = k .refused _ (omega arith)
+  obeyed command.Cut d = k .refused _ (omega arith)
+  obeyed (command.Size n m horizon) d = passed _ _ (omega arith) (λ u. passed _ _ (omega arith) (λ w. k .size n m horizon u w))
   obeyed (command.Give e) d =
-      passed _ _ here (λ u. passed _ _ here (λ b. passed _ _ here (λ w. passed (marked (q .given) (placeOf e)) _ here (λ g. k .entry e d u b w g))))
-  obeyed command.End d = passed _ _ here (λ u. passed _ _ here (λ a. passed (ltb (q .at + 1) (length s)) _ (omega arith) (λ o. k .ended u a (ltb-false _ _ o))))
+      passed _ _ (omega arith) (λ u. passed _ _ (omega arith) (λ b. passed _ _ (omega arith) (λ w. passed (marked (q .given) (placeOf e)) _ (omega arith) (λ g. k .entry e d u b w g))))
+  obeyed command.End d = passed _ _ (omega arith) (λ u. passed _ _ (omega arith) (λ a. passed (ltb (q .at + 1) (length s)) _ (omega arith) (λ o. k .ended u a (ltb-false _ _ o))))
 
   pub next-leads : P (next s q)
   unfolding next

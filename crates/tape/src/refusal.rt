@@ -3,6 +3,21 @@
 ghost use mathlib.Core.Path.{_≡_};
 ghost use Rattle.tape.specs.Refusals.{row, figure};
 
+// Where a number of a plan fails its test: its step and its column, the number found, and what was due,
+// the model's number or the limit that it passed. x(k+1) is of step k; columns are states, then inputs.
+pub struct Fault {
+    pub step: usize,
+    pub column: usize,
+    pub found: i64,
+    pub due: i64,
+}
+
+// The cost of a plan and the floor of multipliers: the gap is what lies between them.
+pub struct Span {
+    pub cost: i64,
+    pub floor: i64,
+}
+
 pub enum Refusal {
     Cut(usize),
     Unknown(usize),
@@ -13,10 +28,10 @@ pub enum Refusal {
     Absent(usize),
     Overrun(usize),
     Length,
-    OffModel,
-    OverLimit,
+    OffModel(Fault),
+    OverLimit(Fault),
     Multiplier,
-    Wide,
+    Wide(Span),
     NotShown,
     Open(usize),
     ArgumentOutOfRange,
@@ -37,10 +52,10 @@ pub fn number(refusal: Refusal) -> usize
         Refusal::Absent(_) => 7,
         Refusal::Overrun(_) => 8,
         Refusal::Length => 9,
-        Refusal::OffModel => 10,
-        Refusal::OverLimit => 11,
+        Refusal::OffModel(_) => 10,
+        Refusal::OverLimit(_) => 11,
         Refusal::Multiplier => 12,
-        Refusal::Wide => 13,
+        Refusal::Wide(_) => 13,
         Refusal::NotShown => 14,
         Refusal::Open(_) => 15,
         Refusal::ArgumentOutOfRange => 5,
@@ -50,10 +65,12 @@ pub fn number(refusal: Refusal) -> usize
 }
 
 // What a refusal carries: the place where it was found, which is an offset of the tape or the count of
-// an entry; nothing; or the rounds R.
+// an entry; nothing; where a plan fails a test; cost and floor; or the rounds R.
 pub enum Carried {
     Place(usize),
     Nothing,
+    Fault(Fault),
+    Span(Span),
     Rounds(usize),
 }
 
@@ -70,10 +87,10 @@ pub fn carries(refusal: Refusal) -> Carried
         Refusal::Absent(at) => Carried::Place(at),
         Refusal::Overrun(at) => Carried::Place(at),
         Refusal::Length => Carried::Nothing,
-        Refusal::OffModel => Carried::Nothing,
-        Refusal::OverLimit => Carried::Nothing,
+        Refusal::OffModel(fault) => Carried::Fault(fault),
+        Refusal::OverLimit(fault) => Carried::Fault(fault),
         Refusal::Multiplier => Carried::Nothing,
-        Refusal::Wide => Carried::Nothing,
+        Refusal::Wide(span) => Carried::Span(span),
         Refusal::NotShown => Carried::Nothing,
         Refusal::Open(rounds) => Carried::Rounds(rounds),
         Refusal::ArgumentOutOfRange => Carried::Nothing,
@@ -82,7 +99,7 @@ pub fn carries(refusal: Refusal) -> Carried
     }
 }
 
-// What it carries as one number, 0 for nothing.
+// What it carries as one number, 0 where that is nothing or several.
 pub fn figure(refusal: Refusal) -> usize
     ensures { λ r. ⌜ r ≡ figure (row refusal .carries) ⌝ }
 {
@@ -90,6 +107,8 @@ pub fn figure(refusal: Refusal) -> usize
     match carried {
         Carried::Place(at) => at,
         Carried::Nothing => 0,
+        Carried::Fault(_) => 0,
+        Carried::Span(_) => 0,
         Carried::Rounds(rounds) => rounds,
     }
 }

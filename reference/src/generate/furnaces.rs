@@ -15,7 +15,7 @@ use crate::tape::{
 /// The largest T.
 pub const MOST_GAP: Whole = 0xffff_ffff;
 
-/// A furnace of random sizes. Its weights, g and R are 1, all other numbers 0.
+/// [`sized`] with random sizes.
 fn blank(random: &mut Random) -> Furnace {
     let states = 1 + random.below(MOST_STATES);
     let inputs = 1 + random.below(MOST_INPUTS);
@@ -23,8 +23,8 @@ fn blank(random: &mut Random) -> Furnace {
     sized(states, inputs, horizon)
 }
 
-/// [`blank`] of the given sizes.
-pub(super) fn sized(states: usize, inputs: usize, horizon: usize) -> Furnace {
+/// A furnace of the given sizes. Its weights, g and R are 1, all other numbers 0.
+pub fn sized(states: usize, inputs: usize, horizon: usize) -> Furnace {
     let column = Column {
         lo: 0,
         hi: 0,

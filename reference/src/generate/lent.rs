@@ -1,5 +1,6 @@
 //! Plans and multipliers to lend to the calls.
 
+use super::faulty::faulty;
 use super::furnaces::best_candidate;
 use super::random::Random;
 use crate::calls::{input_place, solve, state_place, write_multipliers, write_plan};
@@ -40,6 +41,9 @@ pub fn judged(tape: &[u8], furnace: &Furnace, random: &mut Random) -> Vec<Lent> 
     all.push(simulated);
     all.push(in_range(furnace, random));
     all.push(extreme(furnace, &base, random));
+    if random.one_in(2) {
+        all.push(faulty(furnace, &base, random));
+    }
     all.push(wrong_length(&base, random));
     all
 }
@@ -120,7 +124,7 @@ fn simulated(furnace: &Furnace, random: &mut Random) -> Lent {
 }
 
 /// The nearest 32-bit number. States beyond their limits can grow past 32 bits.
-fn saturated(number: Whole) -> i32 {
+pub(super) fn saturated(number: Whole) -> i32 {
     number.clamp(Whole::from(i32::MIN), Whole::from(i32::MAX)) as i32
 }
 

@@ -10,6 +10,7 @@ pub mod commands;
 pub mod curves;
 pub mod damage;
 pub mod entries;
+pub mod faulty;
 pub mod furnaces;
 pub mod given;
 pub mod late;

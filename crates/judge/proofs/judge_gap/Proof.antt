@@ -88,7 +88,7 @@ returns c =
     let p = c .before .before .before in
     let s = start (p .before) in
     let wide : ltZ (s .args .t .wanted) (costAt s -ℤ floorAt s) ≡ true = rw (wanted-is s, gap p .is) at (c .if1 .taken) in
-    rw wide
+    rw (cost-is (p .before), floor-is p, wide)
 
 returns-2 : tie.Need-returns-2
 unfolding gapWithin

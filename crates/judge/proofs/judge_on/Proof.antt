@@ -1,4 +1,4 @@
-use mathlib.Core.Path.{_≡_, sym, _∙_, ap}
+use mathlib.Core.Path.{_≡_, sym, _∙_}
 use mathlib.Core.Bool.{false}
 use native.Mathlib.Omega.{arith}
 use borrow.Author.Needs.{needs}
@@ -9,7 +9,6 @@ use Rattle.primal.specs.Held.{HeldPlan}
 use Rattle.primal.proofs.Lengths.{count-fits}
 use Rattle.primal.proofs.Held.{floor-held, cost-held}
 use Rattle.lent.specs.Checks.{wrongMultipliers, planCheck}
-use Rattle.judge.specs.declared.Judged.the-variants.{Refused}
 use Rattle.judge.specs.Judging.{judgedOn}
 use Rattle.judge.proofs.judge_on.Statement.{statement}
 use Rattle.judge.proofs.judge_on.Tie as tie
@@ -85,9 +84,6 @@ judge-gap-requires c κs =
 enum-known-check : tie.Need-enum-known-check
 enum-known-check c = search needs
 
-refusal-of-requires : tie.Need-refusal-of-requires
-refusal-of-requires c κs = search needs
-
 returns-4 : tie.Need-returns-4
 unfolding judgedOn
 returns-4 c =
@@ -108,14 +104,14 @@ returns-4 c =
 returns-5 : tie.Need-returns-5
 unfolding judgedOn
 returns-5 c =
-    let p = c .before .before .before .before in
+    let p = c .before .before .before in
     let q = tested p in
     rw (
       eq-eqb _ _ (q .before .before .before .if1 .left),
       eq-eqb _ _ (q .before .before .if2 .left),
       in-range q,
-      check-is (p .before) ∙ c .before .before .check .given .1,
-    ) (ap Refused (c .refusal-of .ensures))
+      check-is (p .before) ∙ c .before .check .given .1,
+    )
 
 pub judge-on-spec : {M : Type 1} → statement M
 judge-on-spec =
@@ -134,6 +130,5 @@ judge-on-spec =
     enum-told
     judge-gap-requires
     enum-known-check
-    refusal-of-requires
     returns-4
     returns-5)

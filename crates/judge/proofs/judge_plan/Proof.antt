@@ -2,7 +2,7 @@ use borrow.Author.Needs.{needs}
 use Rattle.integer.proofs.Operand.{Bytes, bytes-of}
 use Rattle.tape.proofs.Facts.{legal}
 use Rattle.judge.specs.Judging.{judged}
-use Rattle.judge.proofs.Accepted.{plan-promise}
+use Rattle.judge.proofs.Reasons.{plan-promise}
 use Rattle.judge.proofs.judge_plan.Statement.{statement}
 use Rattle.judge.proofs.judge_plan.Tie as tie
 

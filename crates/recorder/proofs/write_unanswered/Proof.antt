@@ -21,6 +21,12 @@ enum-told c = search needs
 enum-told-2 : tie.Need-enum-told-2
 enum-told-2 c = search needs
 
+enum-told-3 : tie.Need-enum-told-3
+enum-told-3 c = search needs
+
+enum-told-4 : tie.Need-enum-told-4
+enum-told-4 c = search needs
+
 same-length : tie.Need-same-length
 same-length c = search needs
 
@@ -39,6 +45,12 @@ returns-2 c = rw (rw (c .before .before .carries .ensures) at (c .enum-told .giv
 returns-3 : tie.Need-returns-3
 returns-3 c = rw (rw (c .before .before .carries .ensures) at (c .enum-told2 .given .1)) (refl, (refl, refl))
 
+returns-4 : tie.Need-returns-4
+returns-4 c = rw (rw (c .before .before .carries .ensures) at (c .enum-told3 .given .1)) (refl, (refl, refl))
+
+returns-5 : tie.Need-returns-5
+returns-5 c = rw (rw (c .before .before .carries .ensures) at (c .enum-told4 .given .1)) (refl, (refl, refl))
+
 pub write-unanswered-spec : {M : Type 1} → statement M
 write-unanswered-spec =
     tie.close
@@ -48,8 +60,12 @@ write-unanswered-spec =
     write-open-requires
     enum-told
     enum-told-2
+    enum-told-3
+    enum-told-4
     same-length
     same-length-2
     returns
     returns-2
-    returns-3)
+    returns-3
+    returns-4
+    returns-5)

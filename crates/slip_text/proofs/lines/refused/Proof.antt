@@ -18,14 +18,20 @@ refused-at-requires c κs = search needs
 enum-told : tie.Need-enum-told
 enum-told c = search needs
 
-refused-number-requires : tie.Need-refused-number-requires
-refused-number-requires c κs = search needs
+refused-alone-requires : tie.Need-refused-alone-requires
+refused-alone-requires c κs = search needs
 
-slice-aggregate-with-word : tie.Need-slice-aggregate-with-word
-slice-aggregate-with-word c = search needs
+enum-told-2 : tie.Need-enum-told-2
+enum-told-2 c = search needs
 
-with-word-requires : tie.Need-with-word-requires
-with-word-requires c κs = search needs
+refused-alone-requires-2 : tie.Need-refused-alone-requires-2
+refused-alone-requires-2 c κs = search needs
+
+enum-told-3 : tie.Need-enum-told-3
+enum-told-3 c = search needs
+
+refused-alone-requires-3 : tie.Need-refused-alone-requires-3
+refused-alone-requires-3 c κs = search needs
 
 enum-known-carried-2 : tie.Need-enum-known-carried-2
 enum-known-carried-2 c = search needs
@@ -44,12 +50,24 @@ returns c =
 
 returns-2 : tie.Need-returns-2
 returns-2 c =
-    let n = c .before .before in
-    let v = n .before .before .before in
-    rw (sym (v .before .number .ensures), rw (v .carries .ensures) at (n .before .enum-told .given .1)) (c .with-word .ensures .holds _ (n .refused-number .ensures .0))
+    let k = c .before in
+    let v = k .before .before in
+    rw (sym (v .before .number .ensures), rw (v .carries .ensures) at (k .enum-told .given .1)) (c .refused-alone .ensures)
 
 returns-3 : tie.Need-returns-3
 returns-3 c =
+    let k = c .before in
+    let v = k .before .before in
+    rw (sym (v .before .number .ensures), rw (v .carries .ensures) at (k .enum-told2 .given .1)) (c .refused-alone2 .ensures)
+
+returns-4 : tie.Need-returns-4
+returns-4 c =
+    let k = c .before in
+    let v = k .before .before in
+    rw (sym (v .before .number .ensures), rw (v .carries .ensures) at (k .enum-told3 .given .1)) (c .refused-alone3 .ensures)
+
+returns-5 : tie.Need-returns-5
+returns-5 c =
     let k = c .before .before .before in
     rw (rw (k .before .before .carries .ensures) at (k .carried2 .given .1)) (c .kind-and-rounds .ensures .0)
 
@@ -62,12 +80,16 @@ refused-spec =
     enum-known-carried
     refused-at-requires
     enum-told
-    refused-number-requires
-    slice-aggregate-with-word
-    with-word-requires
+    refused-alone-requires
+    enum-told-2
+    refused-alone-requires-2
+    enum-told-3
+    refused-alone-requires-3
     enum-known-carried-2
     slice-aggregate-kind-and-rounds
     kind-and-rounds-requires
     returns
     returns-2
-    returns-3)
+    returns-3
+    returns-4
+    returns-5)

@@ -29,32 +29,32 @@ enum-known-refusal-8 c = search needs
 enum-told : tie.Need-enum-told
 enum-told c = search needs
 
-enum-told-2 : tie.Need-enum-told-2
-enum-told-2 c = search needs
-
-enum-told-3 : tie.Need-enum-told-3
-enum-told-3 c = search needs
-
-enum-told-4 : tie.Need-enum-told-4
-enum-told-4 c = search needs
-
-enum-told-5 : tie.Need-enum-told-5
-enum-told-5 c = search needs
-
-enum-told-6 : tie.Need-enum-told-6
-enum-told-6 c = search needs
-
 enum-known-refusal-9 : tie.Need-enum-known-refusal-9
 enum-known-refusal-9 c = search needs
-
-enum-told-7 : tie.Need-enum-told-7
-enum-told-7 c = search needs
 
 enum-known-refusal-10 : tie.Need-enum-known-refusal-10
 enum-known-refusal-10 c = search needs
 
+enum-told-2 : tie.Need-enum-told-2
+enum-told-2 c = search needs
+
 enum-known-refusal-11 : tie.Need-enum-known-refusal-11
 enum-known-refusal-11 c = search needs
+
+enum-told-3 : tie.Need-enum-told-3
+enum-told-3 c = search needs
+
+enum-known-refusal-12 : tie.Need-enum-known-refusal-12
+enum-known-refusal-12 c = search needs
+
+enum-told-4 : tie.Need-enum-told-4
+enum-told-4 c = search needs
+
+enum-known-refusal-13 : tie.Need-enum-known-refusal-13
+enum-known-refusal-13 c = search needs
+
+enum-known-refusal-14 : tie.Need-enum-known-refusal-14
+enum-known-refusal-14 c = search needs
 
 returns : tie.Need-returns
 returns c = rw (c .before .refusal .given .1)
@@ -84,31 +84,31 @@ returns-9 : tie.Need-returns-9
 returns-9 c = rw (c .enum-told .given .1)
 
 returns-10 : tie.Need-returns-10
-returns-10 c = rw (c .enum-told2 .given .1)
+returns-10 c = rw (c .before .refusal9 .given .1)
 
 returns-11 : tie.Need-returns-11
-returns-11 c = rw (c .enum-told3 .given .1)
+returns-11 c = rw (c .before .refusal10 .given .1)
 
 returns-12 : tie.Need-returns-12
-returns-12 c = rw (c .enum-told4 .given .1)
+returns-12 c = rw (c .enum-told2 .given .1)
 
 returns-13 : tie.Need-returns-13
-returns-13 c = rw (c .enum-told5 .given .1)
+returns-13 c = rw (c .before .refusal11 .given .1)
 
 returns-14 : tie.Need-returns-14
-returns-14 c = rw (c .enum-told6 .given .1)
+returns-14 c = rw (c .enum-told3 .given .1)
 
 returns-15 : tie.Need-returns-15
-returns-15 c = rw (c .before .refusal9 .given .1)
+returns-15 c = rw (c .before .refusal12 .given .1)
 
 returns-16 : tie.Need-returns-16
-returns-16 c = rw (c .enum-told7 .given .1)
+returns-16 c = rw (c .enum-told4 .given .1)
 
 returns-17 : tie.Need-returns-17
-returns-17 c = rw (c .before .refusal10 .given .1)
+returns-17 c = rw (c .before .refusal13 .given .1)
 
 returns-18 : tie.Need-returns-18
-returns-18 c = rw (c .before .refusal11 .given .1)
+returns-18 c = rw (c .before .refusal14 .given .1)
 
 pub carries-spec : {M : Type 1} → statement M
 carries-spec =
@@ -123,15 +123,15 @@ carries-spec =
     enum-known-refusal-7
     enum-known-refusal-8
     enum-told
-    enum-told-2
-    enum-told-3
-    enum-told-4
-    enum-told-5
-    enum-told-6
     enum-known-refusal-9
-    enum-told-7
     enum-known-refusal-10
+    enum-told-2
     enum-known-refusal-11
+    enum-told-3
+    enum-known-refusal-12
+    enum-told-4
+    enum-known-refusal-13
+    enum-known-refusal-14
     returns
     returns-2
     returns-3

@@ -8,6 +8,7 @@ use native.Mathlib.Omega.{arith}
 use borrow.Author.Tests.{lt-ltb, le-ltb}
 use lib.IntN.{ℤ, _-ℤ_}
 use lib.Signed.{ltZ}
+use Rattle.integer.specs.Order.{_≼_}
 use Rattle.integer.specs.Places.{at}
 use Rattle.integer.proofs.Order.{order}
 use Rattle.integer.proofs.Operand.{Bytes}
@@ -29,6 +30,7 @@ use Rattle.problem.specs.Dual.{floorOf}
 use Rattle.problem.proofs.Congruence.{model-cong}
 use Rattle.lent.specs.declared.walk.Check.{Check}
 use Rattle.lent.specs.declared.walk.Check.the-variants.{Passed, Failed}
+use Rattle.lent.specs.declared.walk.Test.{Test}
 use Rattle.lent.specs.declared.walk.Test.the-variants.{Model, Limits}
 use Rattle.lent.specs.Checks.{first, meets, inputCheckOf, stateCheckOf, stepCheck, planCheck, wrongMultipliers, wrongPlanLength, wrongMultipliersLength}
 use Rattle.lent.proofs.Steps.{first-each}
@@ -120,6 +122,10 @@ module _ (s : List ℕ) (plan y : List ℤ) where
 
 -- ---- The fault of one number
 
+-- a number that strayed is not within its limits, in whichever list it stands
+strayed-outside : {test : Test} {k c : ℕ} {lo hi v w : ℤ} {why : Refusal} → Strayed test k c lo hi v why → w ≡ v → (lo ≼ w) × (w ≼ hi) → ⊥
+strayed-outside r e h = ⊎-elim (λ d. omega (arith, order)) (λ d. omega (arith, order)) (r .side)
+
 module _ (s : List ℕ) (bytes : Bytes s) (plan y : List ℤ) where
   abbrev t : Tape
   t = reading s .tape
@@ -169,7 +175,7 @@ module _ (s : List ℕ) (bytes : Bytes s) (plan y : List ℤ) where
       (record {
         first =
             first-fault k (t .n + j) (inputPlace (t .n) (t .m) k j) (r .due) h (omega arith) (input-place k j) earlier
-            (λ other e _ f. let w = f .inputs-within k j h l in ⊎-elim (λ d. omega (arith, order, w)) (λ d. omega (arith, order, w)) (r .side));
+            (λ other e _ f. strayed-outside r e (f .inputs-within k j h l));
         passed = r .side;
         meets = λ state. let z : ⊥ = omega arith in absurd z;
       }))
@@ -190,7 +196,7 @@ module _ (s : List ℕ) (bytes : Bytes s) (plan y : List ℤ) where
         rw (r .is)
         (over-limit-reasoned s plan y _
         (record {
-          first = state-fault (r .due) (λ other e _ f. let w = f .states-within k i h l in ⊎-elim (λ d. omega (arith, order, w)) (λ d. omega (arith, order, w)) (r .side));
+          first = state-fault (r .due) (λ other e _ f. strayed-outside r e (f .states-within k i h l));
           passed = r .side;
           meets = λ _. model;
         }))

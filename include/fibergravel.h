@@ -8,8 +8,8 @@
  * x86-64 Linux, and needs memcpy and memset from outside and nothing else.
  *
  * For ever. A call that stands here keeps its name, its arguments and the places of its `out`. What is
- * added later comes as a new call, a new command of the tape or a wider range in one, or a new refusal,
- * and FIBERGRAVEL_VERSION goes up.
+ * added later comes as a new call, a new command of the tape or a wider range in one, a new refusal, or a
+ * gap that says more of other plans, and FIBERGRAVEL_VERSION goes up.
  *
  * Memory. The caller owns all of it: the calls allocate nothing, keep no pointer and have no state
  * between them. So they may run on several threads at once, as long as no memory that one of them
@@ -38,6 +38,11 @@
  * Plan and multipliers. n states, m inputs and N steps are the tape's. A plan has N * (n + m) numbers:
  * u(0), x(1), u(1), x(2) and so on, for each step its m inputs and then its n states. Multipliers are
  * N * n numbers, n for each step.
+ *
+ * Rivals. A plan that is judged or worked out is in whole units. A rival of it may lie between them: its
+ * numbers are whole multiples of 1/D, for any whole D from 1, each lies in its limits, and each state is
+ * at most half a unit from what the model gives, unrounded, from the numbers before it. Every plan in
+ * whole units that follows the tape is one.
  */
 #ifndef FIBERGRAVEL_H
 #define FIBERGRAVEL_H
@@ -50,9 +55,11 @@ extern "C" {
 #endif
 
 /* The version of the calls, one number that compares: 100 times the first part plus the second. With 1.1
-   came curves, with 1.2 the imports, with 1.3 weights of 0, with 1.4 the record, with 1.5 the report. */
+   came curves, with 1.2 the imports, with 1.3 weights of 0, with 1.4 the record, with 1.5 the report, with
+   1.6 rivals between whole units: for the same plan and multipliers a gap is the same as before or wider,
+   by at most one for each number of the plan, and what follows from gaps has moved with them. */
 #define FIBERGRAVEL_VERSION_MAJOR 1
-#define FIBERGRAVEL_VERSION_MINOR 5
+#define FIBERGRAVEL_VERSION_MINOR 6
 #define FIBERGRAVEL_VERSION (100 * FIBERGRAVEL_VERSION_MAJOR + FIBERGRAVEL_VERSION_MINOR)
 
 /* The number of a refusal, and what it carries. */
@@ -221,8 +228,8 @@ uint64_t fibergravel_read_references(const uint8_t *tape, size_t tape_len,
                                      int64_t out[FIBERGRAVEL_READ_REFERENCES_LENGTH]);
 
 /*
- * Judges a plan with multipliers. out holds the gap, at most T: the plan follows the tape, and no plan
- * that does costs less than its cost minus the gap. Refusals 1 to 13.
+ * Judges a plan with multipliers. out holds the gap, at most T: the plan follows the tape, and no rival
+ * costs less than its cost minus the gap. Refusals 1 to 13.
  */
 uint64_t fibergravel_judge_plan(const uint8_t *tape, size_t tape_len, const int32_t *plan, size_t plan_len,
                                 const int32_t *multipliers, size_t multipliers_len,
@@ -241,7 +248,8 @@ uint64_t fibergravel_judge_report(const uint8_t *tape, size_t tape_len, const in
                                   int64_t out[FIBERGRAVEL_JUDGE_REPORT_LENGTH]);
 
 /*
- * Judges multipliers for impossibility. 0 is 'shown': no plan follows the tape. Refusals 1 to 9, 12 and 14.
+ * Judges multipliers for impossibility. 0 is 'shown': there is no rival, and so no plan follows the tape.
+ * Refusals 1 to 9, 12 and 14.
  */
 uint64_t fibergravel_judge_multipliers(const uint8_t *tape, size_t tape_len, const int32_t *multipliers,
                                        size_t multipliers_len);

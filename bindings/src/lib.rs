@@ -8,6 +8,11 @@
 //! `docs/TAPE.md` of the repository has the tape's format, `include/fibergravel.h` what a call
 //! needs of memory, stack and time.
 //!
+//! A gap compares a plan, which is in whole units, with its rivals. A rival may lie between whole
+//! units: its numbers are whole multiples of 1/D, for any whole D from 1, each lies in its limits,
+//! and each state is at most half a unit from what the model gives, unrounded, from the numbers
+//! before it. Every plan in whole units that follows the tape is one.
+//!
 //! ```
 //! use fibergravel::{read, solve, Solved, MOST_MULTIPLIERS, MOST_PLAN};
 //!
@@ -213,13 +218,13 @@ pub enum Solved {
     Proved {
         /// Rounds entered, the answering one included.
         rounds: i64,
-        /// No plan that follows the tape costs less than this plan's cost minus the gap.
+        /// No rival costs less than this plan's cost minus the gap.
         gap: i64,
         /// u(0), the duties of the first step; places beyond m are 0.
         first: [i32; MOST_INPUTS],
     },
-    /// 'impossible': no plan follows the tape. The multipliers that show it are in the lent
-    /// slice, and the lent plan is as it was.
+    /// 'impossible': there is no rival, and so no plan follows the tape. The multipliers that show
+    /// it are in the lent slice, and the lent plan is as it was.
     Impossible {
         /// Rounds entered, the answering one included.
         rounds: i64,
@@ -338,8 +343,8 @@ pub fn read_references(tape: &[u8]) -> Result<References, Refusal> {
     Ok(References::from_numbers(&out))
 }
 
-/// Judges a plan with multipliers: the gap, which is at most T. No plan that follows the tape
-/// costs less than this plan's cost minus the gap.
+/// Judges a plan with multipliers: the gap, which is at most T. The plan follows the tape, and no
+/// rival costs less than its cost minus the gap.
 ///
 /// # Errors
 ///
@@ -353,7 +358,8 @@ pub fn judge_plan(tape: &[u8], plan: &[i32], multipliers: &[i32]) -> Result<i64,
     Ok(gap)
 }
 
-/// Judges multipliers for impossibility: 'shown' says that no plan follows the tape.
+/// Judges multipliers for impossibility: 'shown' says that there is no rival, and so that no plan
+/// follows the tape.
 ///
 /// # Errors
 ///

@@ -19,7 +19,7 @@ const ABSENT: u8 = 0xFF;
 pub enum Kind {
     /// 'proved': with a plan and its gap.
     Proved = 1,
-    /// 'impossible': no plan follows the tape.
+    /// 'impossible': there is no rival, and so no plan follows the tape.
     Impossible = 2,
     /// 'open': R rounds without either. There may be a plan all the same.
     Open = 3,
@@ -144,7 +144,7 @@ pub enum Seen {
     Proved {
         /// Rounds entered, the answering one included.
         rounds: u16,
-        /// No plan that follows the tape costs less than the plan's cost minus the gap.
+        /// No rival costs less than the plan's cost minus the gap.
         gap: u32,
         /// u(0), 1 to 4 numbers.
         duties: Duties,
@@ -239,7 +239,7 @@ pub struct Record {
 pub enum Outcome {
     /// 'proved'.
     Proved {
-        /// No plan that follows the tape costs less than the plan's cost minus the gap.
+        /// No rival costs less than the plan's cost minus the gap.
         gap: u32,
         /// The plan, with u(0) in front.
         plan: Plan,

@@ -13,8 +13,7 @@ use crate::{calls, read, wrong_library, Refusal, Tape};
 pub enum Report {
     /// The plan is accepted.
     Accepted {
-        /// At most T. No plan that follows the tape costs less than this plan's cost minus the
-        /// gap.
+        /// At most T. No rival costs less than this plan's cost minus the gap.
         gap: i64,
     },
     /// 10: a state differs from the model. What was due is the number that the model gives from
@@ -27,7 +26,7 @@ pub enum Report {
     Wide {
         /// The plan's cost.
         cost: i64,
-        /// The multipliers' floor: no plan that follows the tape costs less. It may be below 0.
+        /// The multipliers' floor: no rival costs less. It may be below 0.
         floor: i64,
     },
 }

@@ -127,17 +127,23 @@ fn require_multipliers_length(furnace: &Furnace, multipliers: &[i32]) -> Result<
 
 /// The multipliers step by step, or refusal 12.
 fn require_multipliers(furnace: &Furnace, multipliers: &[i32]) -> Result<Multipliers, Refusal> {
+    let y = lent_multipliers(furnace, multipliers);
+    let in_range = |number: &Whole| (-MULTIPLIER_RANGE..=MULTIPLIER_RANGE).contains(number);
+    if !y.iter().flatten().all(in_range) {
+        return Err(Refusal::Multiplier);
+    }
+    Ok(y)
+}
+
+/// The numbers of a slice of the right length step by step.
+pub fn lent_multipliers(furnace: &Furnace, multipliers: &[i32]) -> Multipliers {
     let mut y = vec![vec![0; furnace.states]; furnace.horizon];
     for k in 0..furnace.horizon {
         for i in 0..furnace.states {
-            let number = Whole::from(multipliers[k * furnace.states + i]);
-            if !(-MULTIPLIER_RANGE..=MULTIPLIER_RANGE).contains(&number) {
-                return Err(Refusal::Multiplier);
-            }
-            y[k][i] = number;
+            y[k][i] = Whole::from(multipliers[k * furnace.states + i]);
         }
     }
-    Ok(y)
+    y
 }
 
 /// The numbers of a slice of the right length in the places of a plan. x(0) is the tape's.

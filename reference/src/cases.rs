@@ -12,6 +12,8 @@
 //! A refused `judge` says what the refusal reports: `refused 10 STEP COLUMN FOUND DUE`, `refused 11
 //! STEP COLUMN FOUND DUE`, `refused 13 COST FLOOR`. All others say what they carry, or `-`.
 //!
+//! `quotient` rounds down, and `square`, the quotient of the slope's square, up.
+//!
 //! ```text
 //! read HEX
 //! steps HEX
@@ -35,7 +37,7 @@ use std::str::FromStr;
 use crate::calls::{judge_multipliers, judge_plan, read, solve, Shown, Solved};
 use crate::import::{import_entry, import_model, Entry};
 use crate::marks::{count_missing, Marks, Sizes};
-use crate::model::{floor_div, Column, Furnace, Whole};
+use crate::model::{ceil_div, floor_div, Column, Furnace, Whole};
 use crate::refusal::{Fault, Refusal};
 use crate::tape::{signed, unsigned, MOST_COLUMNS, MOST_INPUTS, MOST_STATES, MOST_STEPS};
 
@@ -200,10 +202,14 @@ fn bit(bytes: &[u8], place: usize) -> bool {
 /// The output line of a case of whole numbers: the result of each part.
 fn whole_numbers(call: &str, parts: &[&str]) -> Result<String, String> {
     let results = match (call, parts) {
-        ("quotient", _) => each(parts, |[dividend, divisor]| quotient(dividend, divisor)),
+        ("quotient", _) => each(parts, |[dividend, divisor]| {
+            Ok(floor_div(dividend, from_1(divisor)?))
+        }),
         ("limit", _) => each(parts, |[number, lo, hi]| limited(number, lo, hi)),
         ("size", _) => each(parts, |[number]| Ok(number.abs())),
-        ("square", _) => each(parts, |[slope, divisor]| quotient(slope * slope, divisor)),
+        ("square", _) => each(parts, |[slope, divisor]| {
+            Ok(ceil_div(slope * slope, from_1(divisor)?))
+        }),
         ("operands", [part]) => operands(&bytes(part)?),
         ("operands", _) => Err("`operands` has another number of parts".to_string()),
         _ => Err(format!("no call is named `{call}`")),
@@ -225,12 +231,12 @@ fn each<const COUNT: usize>(
     parts.iter().map(one).collect()
 }
 
-/// The quotient rounded down, for divisors from 1.
-fn quotient(dividend: Whole, divisor: Whole) -> Result<Whole, String> {
+/// A divisor, which is from 1.
+fn from_1(divisor: Whole) -> Result<Whole, String> {
     if divisor < 1 {
         return Err(format!("{divisor} is no divisor from 1"));
     }
-    Ok(floor_div(dividend, divisor))
+    Ok(divisor)
 }
 
 /// A number limited to `lo` and `hi`.

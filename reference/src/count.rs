@@ -2,6 +2,7 @@
 
 mod given;
 mod import;
+mod quotient;
 mod record;
 mod report;
 
@@ -12,10 +13,11 @@ pub use report::REPORTS;
 
 use std::collections::BTreeMap;
 
-use crate::calls::{judge_multipliers, judge_plan, read, solve, Shown, Solved};
+use crate::calls::{judge_multipliers, judge_plan, read, Shown, Solved};
 use crate::generate::{case, Case, Kind};
 use crate::marks::Sizes;
 use crate::model::{Furnace, Whole};
+use crate::quotient::solve_both;
 use crate::record::Record;
 use crate::refusal::Refusal;
 use crate::report::Report;
@@ -206,7 +208,7 @@ impl Counts {
         self.add_answer("judge multipliers", answer.map(|_| "shown"));
     }
 
-    /// Counts an answer of [`solve`], given what [`read`] says of the same tape.
+    /// Counts an answer of [`solve`](crate::solve), given what [`read`] says of the same tape.
     pub fn add_solved(
         &mut self,
         answer: Result<Solved, Refusal>,
@@ -238,15 +240,20 @@ impl Counts {
             let judged = judge_plan(tape, &lent.plan, &lent.multipliers);
             self.add_gap(judged);
             self.add_report(&furnace, &lent.plan, Report::of_answer(judged));
-            self.add_shown(judge_multipliers(tape, &lent.multipliers));
+            let shown = judge_multipliers(tape, &lent.multipliers);
+            self.add_shown(shown);
+            if let Ok(furnace) = &furnace {
+                self.add_judged_quotients(furnace, &lent.multipliers, judged, shown);
+            }
         }
         // The last slices lent have the right lengths.
         let mut record = None;
         for lent in &case.solved {
             let mut plan = lent.plan.clone();
             let mut multipliers = lent.multipliers.clone();
-            let solved = solve(tape, &mut plan, &mut multipliers);
+            let (solved, rounded_down) = solve_both(tape, &mut plan, &mut multipliers);
             self.add_solved(solved, &furnace);
+            self.add_solved_quotients(solved, &rounded_down);
             let sizes = furnace.as_ref().ok().map(Sizes::of);
             let of_solve = |sizes| Record::of_solve(sizes, solved, &plan, &multipliers).ok();
             record = sizes.and_then(of_solve);
@@ -375,6 +382,7 @@ pub fn count_cases(count: u64, first_seed: u64) -> Counts {
     counts.expect_given();
     counts.expect_imports();
     counts.expect_records();
+    counts.expect_quotients();
     for place in 0..count {
         let seed = first_seed.wrapping_add(place);
         counts.add_case(&case(seed));

@@ -1,6 +1,6 @@
 //! Multipliers and the floor under all plans.
 
-use crate::model::{cost, floor_div, Column, Furnace, Plan, Whole, HALF_UNIT, UNIT};
+use crate::model::{ceil_div, cost, Column, Furnace, Plan, Whole, HALF_UNIT, UNIT};
 
 /// Multipliers lie in −16,777,216 to 16,777,216.
 pub const MULTIPLIER_RANGE: Whole = 16_777_216;
@@ -39,8 +39,11 @@ pub fn end_by_slope(column: &Column, s: Whole) -> Whole {
     }
 }
 
-/// The piece of a plan number with slope s: a lower bound of P × (v − r)² + s × v over lo to hi.
-/// At weight 0 it is s × lo where s ≥ 0 and s × hi otherwise.
+/// The piece of a plan number with slope s: a lower bound of P × (v − r)² + s × v over lo to hi,
+/// fractions of a unit included. At weight 0 it is s × lo where s ≥ 0 and s × hi otherwise.
+///
+/// Where neither end is the least, v = r − s / 2P is, with s × r − s² / 4P. That v may be any
+/// fraction, so the quotient is rounded up (request 7): the piece is not above it.
 pub fn piece(column: &Column, s: Whole) -> Whole {
     if column.weight == 0 {
         return s * end_by_slope(column, s);
@@ -57,7 +60,7 @@ pub fn piece(column: &Column, s: Whole) -> Whole {
     } else if 2 * p * (hi - r) + s <= 0 {
         p * (hi - r) * (hi - r) + s * hi
     } else {
-        s * r - floor_div(s * s, 4 * p)
+        s * r - ceil_div(s * s, 4 * p)
     }
 }
 
@@ -77,20 +80,30 @@ pub fn constant(furnace: &Furnace, y: &Multipliers) -> Whole {
     sum
 }
 
-/// The sum of all pieces.
-pub fn pieces(furnace: &Furnace, y: &Multipliers) -> Whole {
+/// The sum over plan numbers of what `term` gives for the column, with the step's reference, and the
+/// slope.
+pub fn sum_over_numbers(
+    furnace: &Furnace,
+    y: &Multipliers,
+    term: impl Fn(&Column, Whole) -> Whole,
+) -> Whole {
     let mut sum = 0;
     for k in 0..furnace.horizon {
         for j in 0..furnace.inputs {
-            sum += piece(&furnace.input_at(k, j), input_slope(furnace, y, k, j));
+            sum += term(&furnace.input_at(k, j), input_slope(furnace, y, k, j));
         }
     }
     for k in 1..=furnace.horizon {
         for i in 0..furnace.states {
-            sum += piece(&furnace.state_at(k, i), state_slope(furnace, y, k, i));
+            sum += term(&furnace.state_at(k, i), state_slope(furnace, y, k, i));
         }
     }
     sum
+}
+
+/// The sum of all pieces.
+pub fn pieces(furnace: &Furnace, y: &Multipliers) -> Whole {
+    sum_over_numbers(furnace, y, piece)
 }
 
 /// The floor (dual bound): all pieces + constant − 2048 × the sum of |y|. The last term is there

@@ -82,7 +82,7 @@ reference expect < CASES
         quotient DIVIDEND DIVISOR / ..    rounded down
         limit NUMBER LO HI / ..           the number limited to lo and hi
         size NUMBER / ..                  without its sign
-        square SLOPE DIVISOR / ..         the quotient of the square, rounded down
+        square SLOPE DIVISOR / ..         the quotient of the square, rounded up
         operands HEX                      of 4 bytes: the first as unsigned, the first 2 as
                                           unsigned and as signed, the last 2 as signed, all as
                                           unsigned and as signed
@@ -94,8 +94,9 @@ reference generate [COUNT [SEED]]
     rounds, sizes, rare shapes, curves and weights of 0, what a solve came to with these, how often
     a command 31 brought a refusal about, the first faults of plans by kind, side and step, how many
     faults plans had, gaps at T and one above it, how many required places were missing, answers to
-    entries and models by kinds, sizes and rare shapes, and records by kind, m, rare shapes and
-    wrong lengths. Fails if a count is 0, which is to be expected of a small COUNT.
+    entries and models by kinds, sizes and rare shapes, records by kind, m, rare shapes and wrong
+    lengths, and which answers of judging and solving are others since the third piece's quotient
+    is rounded up. Fails if a count is 0, which is to be expected of a small COUNT.
 ";
 
 fn main() -> ExitCode {

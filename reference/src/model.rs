@@ -3,7 +3,8 @@
 use crate::marks::Sizes;
 
 /// A whole number. 128 bits hold every product and sum of document 01 with room to spare: the
-/// largest is the square of a slope, below 3 × 10^24.
+/// largest is the square of a slope, below 3 × 10^24. Rounding its quotient up, as request 7 asks,
+/// makes no larger one: the multiple of the divisor that is compared with it is not above it.
 pub type Whole = i128;
 
 /// A and B are in units of 1/4096.
@@ -12,13 +13,25 @@ pub const UNIT: Whole = 4096;
 /// Half of [`UNIT`], added before the model rounds down.
 pub const HALF_UNIT: Whole = 2048;
 
-/// The quotient rounded down (towards minus infinity). Every quotient of the paper is formed
-/// here. All divisors of the paper are positive.
+/// The quotient rounded down (towards minus infinity). Every quotient of the papers but that of the
+/// third piece is formed here. All divisors of the papers are positive.
 pub fn floor_div(dividend: Whole, divisor: Whole) -> Whole {
     assert!(divisor > 0);
     let towards_zero = dividend / divisor;
     if towards_zero * divisor > dividend {
         towards_zero - 1
+    } else {
+        towards_zero
+    }
+}
+
+/// The quotient rounded up (towards plus infinity): the least number whose multiple of the divisor
+/// is at or above the dividend. The third piece has it (request 7).
+pub fn ceil_div(dividend: Whole, divisor: Whole) -> Whole {
+    assert!(divisor > 0);
+    let towards_zero = dividend / divisor;
+    if towards_zero * divisor < dividend {
+        towards_zero + 1
     } else {
         towards_zero
     }
@@ -223,5 +236,28 @@ mod tests {
     fn quotients_are_rounded_down() {
         let quotients = [-9, -8, -7, -1, 0, 1, 7, 8, 9].map(|number| floor_div(number, 8));
         assert_eq!(quotients, [-2, -1, -1, -1, 0, 0, 0, 1, 1]);
+    }
+
+    #[test]
+    fn quotients_are_rounded_up() {
+        let quotients = [-9, -8, -7, -1, 0, 1, 7, 8, 9].map(|number| ceil_div(number, 8));
+        assert_eq!(quotients, [-1, -1, 0, 0, 0, 1, 1, 1, 2]);
+        // A square of 64 bits, and the same less one: 2^126 / 2^63, (2^126 − 1) / 2^63.
+        let (square, divisor) = (1 << 126, 1 << 63);
+        assert_eq!(ceil_div(square, divisor), 1 << 63);
+        assert_eq!(ceil_div(square - 1, divisor), 1 << 63);
+        assert_eq!(floor_div(square - 1, divisor), (1 << 63) - 1);
+    }
+
+    #[test]
+    fn both_quotients_enclose_the_fraction() {
+        for divisor in 1..=12 {
+            for dividend in -40..=40 {
+                let (down, up) = (floor_div(dividend, divisor), ceil_div(dividend, divisor));
+                let whole = dividend % divisor == 0;
+                assert!(down * divisor <= dividend && dividend <= up * divisor);
+                assert_eq!(up - down, if whole { 0 } else { 1 });
+            }
+        }
     }
 }

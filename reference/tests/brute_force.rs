@@ -1,131 +1,34 @@
-//! Tiny tapes, on which all rivals can be listed. The model and the cost are written here a
-//! second time, for one state and one input.
+//! Tiny tapes, on which all rivals of D = 1 to 6 can be listed.
+
+mod tiny;
 
 use std::collections::BTreeMap;
 
 use reference::floor::{ceiling, floor, piece};
 use reference::generate::commands;
 use reference::generate::Random;
-use reference::model::{Column, Furnace};
+use reference::model::Column;
+use reference::quotient::lowered;
 use reference::rounds::minimiser;
 use reference::*;
+use tiny::*;
 
-/// A furnace of one state and one input with narrow limits and one or two steps.
-fn tiny(random: &mut Random) -> Furnace {
-    let horizon = 1 + random.below(2);
-    tiny_of(horizon, random)
+/// Have rivals no list of whole numbers among them?
+fn fractions_only(rivals: &[Rivals]) -> bool {
+    rivals.first().is_some_and(|of_d| of_d.d > 1)
 }
 
-/// [`tiny`] with a given number of steps. Half of the columns have a curve. Half of the furnaces have
-/// weight 0, a sixth on both columns.
-fn tiny_of(horizon: usize, random: &mut Random) -> Furnace {
-    let narrow = |random: &mut Random, width: Whole, weight: Whole| {
-        let lo = random.between(-12, 12);
-        Column {
-            lo,
-            hi: lo + random.between(0, width),
-            reference: random.between(-20, 20),
-            weight: weight * random.between(1, 3),
-        }
-    };
-    let a = random.between(-6_000, 6_000);
-    let b = random.between(-6_000, 6_000);
-    let weights = [(1, 1), (1, 1), (1, 1), (0, 1), (1, 0), (0, 0)];
-    let (of_state, of_input) = random.choose(&weights);
-    let state = narrow(random, 20, of_state);
-    let input = narrow(random, 6, of_input);
-    // g near the size at which the rounds converge, a weight of 0 being taken for 1.
-    let price = |column: Column| 4096 * column.weight.max(1);
-    let size = (a * a + 4096 * 4096) / price(state) + b * b / price(input);
-    Furnace {
-        states: 1,
-        inputs: 1,
-        horizon,
-        a: vec![vec![a]],
-        b: vec![vec![b]],
-        drift: vec![random.between(-20_000, 20_000)],
-        columns: vec![state, input],
-        curves: vec![curve(horizon, random), curve(horizon, random)],
-        start: vec![random.between(-20, 20)],
-        step_size: (131_072 / size * random.between(1, 8) / 4).clamp(1, 65_535),
-        rounds: random.between(1, 60) as u32,
-        wanted_gap: random.between(0, 3_000_000),
+/// Is a rival cheaper than a plan of this cost?
+fn is_undercut(rivals: &[Rivals], cost: Whole) -> bool {
+    rivals.iter().any(|of_d| of_d.least < of_d.in_units(cost))
+}
+
+/// Demand 3: no rival costs less than the bound.
+fn check_bound(furnace: &Furnace, rivals: &[Rivals], bound: Whole) {
+    for of_d in rivals {
+        let bound = of_d.in_units(bound);
+        assert!(bound <= of_d.least, "{furnace:?}: {bound} above {of_d:?}");
     }
-}
-
-/// A curve, or none.
-fn curve(horizon: usize, random: &mut Random) -> Option<Vec<Whole>> {
-    let steps = 0..horizon;
-    let curve = steps.map(|_| random.between(-20, 20)).collect();
-    random.one_in(2).then_some(curve)
-}
-
-/// How many columns have weight 0.
-fn zeros(furnace: &Furnace) -> usize {
-    let columns = furnace.columns.iter();
-    columns.filter(|column| column.weight == 0).count()
-}
-
-/// Is there a curve that is no hold?
-fn has_ramp(furnace: &Furnace) -> bool {
-    let mut curves = furnace.curves.iter().flatten();
-    curves.any(|curve| curve.len() == 2 && curve[0] != curve[1])
-}
-
-/// A rival as the plan slice holds it, with its cost.
-type Rival = (Vec<i32>, i64);
-
-/// All plans of whole numbers that follow the tape.
-fn rivals(furnace: &Furnace) -> Vec<Rival> {
-    let small = |number: Whole| number as i64;
-    let (a, b) = (small(furnace.a[0][0]), small(furnace.b[0][0]));
-    let w = small(furnace.drift[0]);
-    let [state, input] = [0, 1].map(|place| {
-        let column = furnace.columns[place];
-        [column.lo, column.hi, column.weight].map(small)
-    });
-    let mut found = vec![(Vec::new(), 0)];
-    for step in 0..furnace.horizon {
-        let [state_r, input_r] = [0, 1].map(|place| {
-            let hold = furnace.columns[place].reference;
-            let curve = furnace.curves[place].as_ref();
-            small(curve.map_or(hold, |curve| curve[step]))
-        });
-        let mut longer = Vec::new();
-        for (plan, spent) in found {
-            let from = plan
-                .last()
-                .map_or(small(furnace.start[0]), |x| i64::from(*x));
-            for u in input[0]..=input[1] {
-                // The state x with −2048 ≤ S − 4096 x ≤ 2047.
-                let sum = a * from + b * u + w;
-                for x in state[0]..=state[1] {
-                    if (-2048..=2047).contains(&(sum - 4096 * x)) {
-                        let mut plan: Vec<i32> = plan.clone();
-                        plan.extend([u as i32, x as i32]);
-                        let state_cost = 4096 * state[2] * (x - state_r).pow(2);
-                        let input_cost = 4096 * input[2] * (u - input_r).pow(2);
-                        longer.push((plan, spent + state_cost + input_cost));
-                    }
-                }
-            }
-        }
-        found = longer;
-    }
-    found
-}
-
-/// The least cost of a rival, if there is one.
-fn least(rivals: &[Rival]) -> Option<Whole> {
-    rivals.iter().map(|(_, cost)| Whole::from(*cost)).min()
-}
-
-/// Multipliers of a random size.
-fn multipliers(furnace: &Furnace, random: &mut Random) -> Vec<i32> {
-    let range = random.choose(&[2, 20, 200, 2_000, 16_777_216]);
-    (0..furnace.horizon)
-        .map(|_| random.between(-range, range) as i32)
-        .collect()
 }
 
 #[test]
@@ -133,32 +36,52 @@ fn floor_is_under_every_rival() {
     let mut random = Random::new(1);
     // By the number of columns of weight 0.
     let mut with_rivals = [0; 3];
-    let mut close = [0; 3];
+    let mut only_fractions = [0; 3];
+    // And by D.
+    let mut close = [[0; MOST_D as usize]; 3];
     for _ in 0..3_000 {
         let furnace = tiny(&mut random);
         let zeros = zeros(&furnace);
-        let Some(least) = least(&rivals(&furnace)) else {
-            continue;
-        };
-        with_rivals[zeros] += 1;
-        assert!(least <= ceiling(&furnace));
+        let rivals = rivals(&furnace);
+        with_rivals[zeros] += u32::from(!rivals.is_empty());
+        only_fractions[zeros] += u32::from(fractions_only(&rivals));
         for _ in 0..60 {
-            let y = multipliers(&furnace, &mut random)
-                .iter()
-                .map(|number| vec![Whole::from(*number)])
-                .collect();
+            let y = by_steps(&multipliers(&furnace, &mut random));
             let floor = floor(&furnace, &y);
-            assert!(floor <= least, "{furnace:?} {y:?}: {floor} above {least}");
-            // Within a tenth of the least cost: a floor that is much too low would not be.
-            close[zeros] += u32::from(least > 0 && 10 * floor >= 9 * least);
+            check_bound(&furnace, &rivals, floor);
+            for of_d in &rivals {
+                // Within a tenth of the least cost: a floor that is much too low would not be.
+                let is_close = of_d.least > 0 && 10 * of_d.in_units(floor) >= 9 * of_d.least;
+                close[zeros][of_d.d as usize - 1] += u32::from(is_close);
+            }
         }
     }
-    assert!(
-        with_rivals.iter().all(|count| *count > 100),
-        "{with_rivals:?}"
-    );
+    let counts = [with_rivals, only_fractions];
+    assert!(with_rivals.iter().all(|count| *count > 100), "{counts:?}");
+    assert!(only_fractions.iter().all(|count| *count > 10), "{counts:?}");
     // Where all weights are 0 every rival costs 0.
-    assert!(close[0] > 1_000 && close[1] > 1_000, "{close:?}");
+    let mut weighted = close[..2].iter().flatten();
+    assert!(weighted.all(|count| *count > 1_000), "{close:?}");
+}
+
+#[test]
+fn no_rival_is_above_the_ceiling() {
+    let mut random = Random::new(8);
+    // By D: the dearest rival is at a ceiling above 0, or below it.
+    let mut at = [0; MOST_D as usize];
+    let mut below = [0; MOST_D as usize];
+    for _ in 0..2_000 {
+        let furnace = tiny(&mut random);
+        let ceiling = ceiling(&furnace);
+        for of_d in rivals(&furnace) {
+            let (ceiling, place) = (of_d.in_units(ceiling), of_d.d as usize - 1);
+            assert!(of_d.most <= ceiling, "{furnace:?}: {of_d:?}");
+            at[place] += u32::from(ceiling > 0 && of_d.most == ceiling);
+            below[place] += u32::from(of_d.most < ceiling);
+        }
+    }
+    let counts = [at, below].concat();
+    assert!(counts.iter().all(|count| *count > 100), "{counts:?}");
 }
 
 #[test]
@@ -193,38 +116,38 @@ fn no_rival_is_cheaper_than_an_accepted_plan_by_more_than_its_gap() {
     let mut random = Random::new(3);
     // By the number of columns of weight 0.
     let mut accepted = [0; 3];
-    let mut ramps = 0;
+    let (mut ramps, mut undercut) = (0, 0);
     for _ in 0..2_000 {
         let mut furnace = tiny(&mut random);
         furnace.wanted_gap = random.choose(&[100_000, 1_000_000, 0xffff_ffff]);
         let tape = commands::of_furnace(&furnace, &mut random).concat();
         let rivals = rivals(&furnace);
-        let Some(least) = least(&rivals) else {
-            continue;
-        };
-        for (plan, cost) in &rivals {
+        for (plan, cost) in plans(&furnace) {
+            let cost = Whole::from(cost);
             let y = multipliers(&furnace, &mut random);
-            match judge_plan(&tape, plan, &y) {
+            match judge_plan(&tape, &plan, &y) {
                 Ok(gap) => {
                     accepted[zeros(&furnace)] += 1;
                     ramps += u32::from(has_ramp(&furnace));
+                    undercut += u32::from(is_undercut(&rivals, cost));
                     assert!(gap >= 0 && gap <= furnace.wanted_gap);
-                    assert!(least >= Whole::from(*cost) - gap, "{furnace:?}");
+                    check_bound(&furnace, &rivals, cost - gap);
                 }
                 Err(Refusal::Wide { cost: told, floor }) => {
-                    assert_eq!(told, Whole::from(*cost));
-                    assert!(told - floor > furnace.wanted_gap && floor <= least);
+                    assert_eq!(told, cost);
+                    assert!(told - floor > furnace.wanted_gap);
+                    check_bound(&furnace, &rivals, floor);
                 }
-                Err(refusal) => panic!("{refusal:?} for a rival"),
+                Err(refusal) => panic!("{refusal:?} for a plan that follows the tape"),
             }
         }
     }
     assert!(accepted.iter().all(|count| *count > 200), "{accepted:?}");
-    assert!(ramps > 300, "{ramps}");
+    assert!(ramps > 300 && undercut > 300, "{ramps} {undercut}");
 }
 
 #[test]
-fn only_rivals_are_accepted() {
+fn only_plans_that_follow_the_tape_are_accepted() {
     let mut random = Random::new(4);
     // By the number of columns of weight 0.
     let mut accepted = [0; 3];
@@ -234,19 +157,20 @@ fn only_rivals_are_accepted() {
         let zeros = zeros(&furnace);
         furnace.wanted_gap = 0xffff_ffff;
         let tape = commands::of_furnace(&furnace, &mut random).concat();
-        let rivals = rivals(&furnace);
+        let plans = plans(&furnace);
         for u in -20..=20 {
             for x in -40..=40 {
                 let plan = vec![u, x];
-                let is_rival = rivals.iter().any(|(rival, _)| *rival == plan);
-                match judge_plan(&tape, &plan, &[0]) {
+                let follows = plans.iter().any(|(listed, _)| *listed == plan);
+                let judged = judge_plan(&tape, &plan, &[0]);
+                assert_eq!(judged.is_ok(), follows);
+                match judged {
                     Ok(_) => accepted[zeros] += 1,
                     Err(refusal) => {
                         assert!([10, 11].contains(&refusal.number()));
                         refused[zeros] += 1;
                     }
                 }
-                assert_eq!(judge_plan(&tape, &plan, &[0]).is_ok(), is_rival);
             }
         }
     }
@@ -288,14 +212,13 @@ fn solved(furnace: &Furnace, random: &mut Random) -> Vec<&'static str> {
     names.map(|(name, _)| name).collect()
 }
 
-/// A proved plan is a rival, and none costs less than it by more than the gap.
-fn check_proved(furnace: &Furnace, rivals: &[Rival], plan: &[i32], gap: Whole) {
-    let (_, cost) = rivals
-        .iter()
-        .find(|(rival, _)| *rival == plan)
-        .expect("a proved plan is a rival");
-    let least = least(rivals).expect("there is a rival");
-    assert!(least >= Whole::from(*cost) - gap, "{furnace:?}");
+/// A proved plan follows the tape, and no rival costs less than it by more than the gap.
+fn check_proved(furnace: &Furnace, rivals: &[Rivals], plan: &[i32], gap: Whole) {
+    let (_, cost) = plans(furnace)
+        .into_iter()
+        .find(|(listed, _)| *listed == plan)
+        .expect("a proved plan follows the tape");
+    check_bound(furnace, rivals, Whole::from(cost) - gap);
     assert!(gap <= furnace.wanted_gap);
 }
 
@@ -313,6 +236,98 @@ fn solves_agree_with_the_list_of_rivals() {
     assert_eq!(counts.len(), 7, "{counts:?}");
     let mut all = counts.values().flatten();
     assert!(all.all(|count| *count > 10), "{counts:?}");
+}
+
+/// The floor of a tiny furnace, with the quotient of the third piece rounded up or, as before request
+/// 7, down. How many pieces are the third, too.
+fn floor_by_hand(furnace: &Furnace, y: &[Vec<Whole>], up: bool) -> (Whole, usize) {
+    let (a, b) = (furnace.a[0][0], furnace.b[0][0]);
+    let (mut floor, mut thirds) = (y[0][0] * a * furnace.start[0], 0);
+    for k in 0..furnace.horizon {
+        let after = y.get(k + 1).map_or(0, |y| y[0]);
+        for (c, s) in [(0, -4096 * y[k][0] + a * after), (1, b * y[k][0])] {
+            let Column { lo, hi, weight, .. } = furnace.columns[c];
+            let (p, r) = (4096 * weight, furnace.reference(c, k));
+            if 2 * p * (lo - r) + s >= 0 {
+                floor += p * (lo - r).pow(2) + s * lo;
+            } else if 2 * p * (hi - r) + s <= 0 {
+                floor += p * (hi - r).pow(2) + s * hi;
+            } else {
+                let whole = s * s % (4 * p) == 0;
+                let quotient = s * s / (4 * p) + Whole::from(up && !whole);
+                floor += s * r - quotient;
+                thirds += 1;
+            }
+        }
+        floor += y[k][0] * furnace.drift[0] - 2048 * y[k][0].abs();
+    }
+    (floor, thirds)
+}
+
+#[test]
+fn rounding_up_lowers_the_floor_by_at_most_one_for_each_number() {
+    let mut random = Random::new(9);
+    // By the number of steps: the floors that are lower by 0 to 4.
+    let mut counts = [[0; 5]; 2];
+    for _ in 0..40_000 {
+        let mut furnace = tiny(&mut random);
+        if random.one_in(2) {
+            // With references inside the limits more pieces are the third.
+            furnace.curves.fill(None);
+            for column in &mut furnace.columns {
+                column.reference = random.between(column.lo, column.hi);
+            }
+        }
+        let y = by_steps(&multipliers(&furnace, &mut random));
+        let (up, thirds) = floor_by_hand(&furnace, &y, true);
+        let (down, _) = floor_by_hand(&furnace, &y, false);
+        assert_eq!(floor(&furnace, &y), up, "{furnace:?} {y:?}");
+        assert_eq!(lowered(&furnace, &y), down - up, "{furnace:?} {y:?}");
+        let by = usize::try_from(down - up).expect("no floor is higher");
+        assert!(by <= thirds && thirds <= furnace.plan_length());
+        counts[furnace.horizon - 1][by] += 1;
+    }
+    // One step has 2 numbers, two steps have 4.
+    let possible = [&counts[0][..3], &counts[1]].concat();
+    assert!(possible.iter().all(|count| *count > 50), "{counts:?}");
+}
+
+#[test]
+fn piece_is_the_largest_whole_number_under_all_fractions() {
+    let mut random = Random::new(10);
+    // By the number of the piece, the third one whole or not: the fourth.
+    let mut tried = [0; 4];
+    for _ in 0..20_000 {
+        let lo = random.between(-30, 30);
+        let column = Column {
+            lo,
+            hi: lo + random.between(0, 30),
+            reference: random.between(-60, 60),
+            weight: random.between(1, 3),
+        };
+        let (p, r) = (4096 * column.weight, column.reference);
+        let (range, grain) = random.choose(&[(20_000, 1), (600_000, 1), (600_000, 4096)]);
+        let s = random.between(-range, range) / grain * grain;
+        // With D = 2P the real number at which P (v − r)² + s v is least is V = 2P r − s, and the
+        // nearer end where that is outside the limits. In units of 1/D²:
+        let d = 2 * p;
+        let value = |v: Whole| p * (v - d * r) * (v - d * r) + s * v * d;
+        let best = (d * r - s).clamp(d * lo, d * column.hi);
+        let beside = [-d, -1, 0, 1, d].map(|by| (best + by).clamp(d * lo, d * column.hi));
+        let least = beside.map(value).into_iter().min().unwrap();
+        assert_eq!(least, value(best));
+        let piece = piece(&column, s);
+        let whole = least % (d * d) == 0;
+        assert!(d * d * piece <= least && least < d * d * (piece + 1));
+        let place = match best {
+            v if v == d * lo => 0,
+            v if v == d * column.hi => 1,
+            _ if whole => 2,
+            _ => 3,
+        };
+        tried[place] += 1;
+    }
+    assert!(tried.iter().all(|count| *count > 100), "{tried:?}");
 }
 
 #[test]

@@ -173,12 +173,13 @@ fn whole_numbers() {
     let cases = "quotient -1 2 / 1 2 / -9223372036854775808 9223372036854775807\n\
         limit -4 -3 9 / 10 -3 9 / 5 -3 9\n\
         size 7 / -9223372036854775808\n\
-        square 9 2 / -9 2 / 9223372036854775807 1\n\
+        square 9 2 / -9 2 / 8 2 / 0 5 / 9223372036854775807 1\n\
         operands 01 80 FF 7F\n";
+    // Squares: 81 / 2 is 40.5, upwards, and 64 / 2 is whole.
     let expected = "quotient -1 0 -2\n\
         limit -3 9 5\n\
         size 7 9223372036854775808\n\
-        square 40 40 85070591730234615847396907784232501249\n\
+        square 41 41 32 0 85070591730234615847396907784232501249\n\
         operands 1 32769 -32767 32767 2147450881 2147450881\n";
     assert_eq!(expect(cases).unwrap(), expected);
 }
@@ -197,6 +198,7 @@ fn texts_that_are_no_cases() {
         "show 10 / 1.5",
         "show 10 / 2147483648",
         "quotient 1 0",
+        "square 1 0",
         "quotient 1 2 3",
         "limit 1 3 2",
         "size 9223372036854775808",

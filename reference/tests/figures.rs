@@ -4,6 +4,7 @@ mod tapes;
 
 use reference::floor::{ceiling, constant, floor, gap, input_slope, piece, pieces, state_slope};
 use reference::model::{cost, next_state, residual, rounded_state, Column, Furnace, Plan};
+use reference::quotient::lowered;
 use reference::rounds::{Candidate, Ending};
 use reference::*;
 use tapes::*;
@@ -90,7 +91,8 @@ fn m9_impossible() {
 fn m10_pieces_around_an_end() {
     let f = read(&tape_m9()).unwrap();
     assert_eq!(piece(f.state_column(0), 409_600), 92_160_000);
-    assert_eq!(piece(f.state_column(0), 409_599), 92_159_800);
+    // 409,599 × 250 − 409,599² / 16,384, the quotient 10,239,950.00006 rounded up (request 7).
+    assert_eq!(piece(f.state_column(0), 409_599), 92_159_799);
 }
 
 #[test]
@@ -100,8 +102,8 @@ fn pieces_at_the_upper_end() {
     // 4096 × 2500 − 409,600 × 300.
     assert_eq!(piece(f.state_column(0), -409_600), -112_640_000);
     assert_eq!(piece(f.state_column(0), -409_601), -112_640_300);
-    // −409,599 × 250 − 409,599² / 16,384, the quotient 10,239,950.00006 rounded down.
-    assert_eq!(piece(f.state_column(0), -409_599), -112_639_700);
+    // −409,599 × 250 − 409,599² / 16,384, the quotient 10,239,950.00006 rounded up.
+    assert_eq!(piece(f.state_column(0), -409_599), -112_639_701);
 }
 
 #[test]
@@ -265,7 +267,7 @@ const PAIR_PLAN: [i32; 8] = [1, 2, 21, 24, 3, 4, 36, 30];
 
 #[test]
 fn two_states_two_inputs_two_steps() {
-    let tape = with_search(PAIR_FRONT, 1, 1, 1_525_205);
+    let tape = with_search(PAIR_FRONT, 1, 1, 1_525_206);
     let f = read(&tape).unwrap();
     let plan = Plan {
         u: vec![vec![1, 2], vec![3, 4]],
@@ -279,16 +281,19 @@ fn two_states_two_inputs_two_steps() {
     // x(1,0): −4096 + 3 × 4096 − 4 × 0. x(1,1): −8192 + 3 × 2048 − 4 × 4096.
     let states = [(1, 0), (1, 1), (2, 0), (2, 1)].map(|(k, i)| state_slope(&f, &y, k, i));
     assert_eq!(states, [8_192, -18_432, -12_288, 16_384]);
-    // −341.33 is −341 after rounding the quotient down.
-    let by_hand = -341 + 7_168 - 3_072 - 20_480 + 159_744 - 471_168 - 254_976 + 401_408;
+    // 4,096² / 49,152 = 341.33 is 342 upwards. The other quotients are whole: 8,192² / 65,536,
+    // 12,288² / 49,152, 16,384² / 65,536; 8,192² / 16,384, 18,432² / 32,768, 12,288² / 16,384,
+    // 16,384² / 32,768.
+    let by_hand = -342 + 7_168 - 3_072 - 20_480 + 159_744 - 471_168 - 254_976 + 401_408;
     assert_eq!(pieces(&f, &y), by_hand);
     // (2 − 4) × 8192 + 1 × (40,960 + 40,960) + 2 × 81,920.
     assert_eq!(constant(&f, &y), 229_376);
-    assert_eq!(floor(&f, &y), 27_179);
-    assert_eq!(judge_plan(&tape, &PAIR_PLAN, &[1, 2, 3, -4]), Ok(1_525_205));
-    let less = with_search(PAIR_FRONT, 1, 1, 1_525_204);
+    // Less 2048 × 10. With 341 the floor would be 27,179.
+    assert_eq!((floor(&f, &y), lowered(&f, &y)), (27_178, 1));
+    assert_eq!(judge_plan(&tape, &PAIR_PLAN, &[1, 2, 3, -4]), Ok(1_525_206));
+    let less = with_search(PAIR_FRONT, 1, 1, 1_525_205);
     let refused = judge_plan(&less, &PAIR_PLAN, &[1, 2, 3, -4]);
-    let (cost, floor) = (4096 * 379, 27_179);
+    let (cost, floor) = (4096 * 379, 27_178);
     assert_eq!(refused, Err(Refusal::Wide { cost, floor }));
     // x(1,0) = 10 + 20 / 2 + 1 leaves nothing over.
     assert_eq!(residual(&f, &plan, 0, 0), 0);

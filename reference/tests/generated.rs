@@ -2,8 +2,10 @@
 
 use std::collections::BTreeMap;
 
+use reference::calls::{input_place, lent_multipliers, lent_plan, state_place};
 use reference::generate::{case, commands, kind, tape, Case, Kind, Random};
-use reference::model::{cost, follows_tape};
+use reference::model::{cost, follows_tape, residual, Plan};
+use reference::quotient::lowered;
 use reference::rounds::{Candidate, Ending, Round};
 use reference::shapes::some_weight_0;
 use reference::*;
@@ -158,6 +160,110 @@ fn shown_and_accepted_exclude_each_other() {
         let shown = multipliers.filter(|lent| judge_multipliers(tape, &lent.multipliers).is_ok());
         assert!(accepted.count() == 0 || shown.count() == 0, "seed {seed}");
     }
+}
+
+/// The denominators with which generated plans are tried as rivals.
+const DENOMINATORS: [Whole; 4] = [1, 2, 3, 1 << 25];
+
+/// The furnace in units of 1/D: all temperatures and duties times D, A, B and the weights as they are.
+fn in_units(furnace: &Furnace, d: Whole) -> Furnace {
+    let mut units = furnace.clone();
+    for column in &mut units.columns {
+        for number in [&mut column.lo, &mut column.hi, &mut column.reference] {
+            *number *= d;
+        }
+    }
+    let curves = units.curves.iter_mut().flatten().flatten();
+    for number in curves.chain(&mut units.start).chain(&mut units.drift) {
+        *number *= d;
+    }
+    units
+}
+
+/// The numbers in the places of a plan of a furnace.
+fn plan_of(furnace: &Furnace, numbers: &[Whole]) -> Plan {
+    let mut plan = lent_plan(furnace, &vec![0; numbers.len()]);
+    for k in 0..furnace.horizon {
+        for j in 0..furnace.inputs {
+            plan.u[k][j] = numbers[input_place(furnace, k, j)];
+        }
+        for i in 0..furnace.states {
+            plan.x[k + 1][i] = numbers[state_place(furnace, k + 1, i)];
+        }
+    }
+    plan
+}
+
+/// Checks a list against document 01's limits, residuals and cost in units of 1/D. Is it a rival?
+fn check_rival(furnace: &Furnace, d: Whole, numbers: &[Whole]) -> bool {
+    let units = in_units(furnace, d);
+    let plan = plan_of(&units, numbers);
+    let mut expected = true;
+    for k in 0..units.horizon {
+        for j in 0..units.inputs {
+            expected &= units.input_column(j).contains(plan.u[k][j]);
+        }
+        for i in 0..units.states {
+            expected &= units.state_column(i).contains(plan.x[k + 1][i]);
+            expected &= residual(&units, &plan, k, i).abs() <= 2048 * d;
+        }
+    }
+    assert_eq!(rival::is_rival(furnace, d, numbers), expected);
+    assert_eq!(rival::cost(furnace, d, numbers), cost(&units, &plan));
+    expected
+}
+
+#[test]
+fn plans_that_follow_the_tape_are_rivals() {
+    let mut random = Random::new(8);
+    // By D: lists beside plans that are rivals, and that are not.
+    let mut beside = [[0; DENOMINATORS.len()]; 2];
+    for seed in SEEDS {
+        let case = case(seed);
+        for lent in &case.judged {
+            let judged = judge_plan(&case.tape.bytes, &lent.plan, &lent.multipliers);
+            let (Ok(_) | Err(Refusal::Wide { .. })) = judged else {
+                continue;
+            };
+            let furnace = read(&case.tape.bytes).unwrap();
+            let cost = cost(&furnace, &lent_plan(&furnace, &lent.plan));
+            for (place, d) in DENOMINATORS.into_iter().enumerate() {
+                let whole = lent.plan.iter().map(|number| d * Whole::from(*number));
+                let mut numbers: Vec<Whole> = whole.collect();
+                assert!(check_rival(&furnace, d, &numbers), "seed {seed}");
+                assert_eq!(rival::cost(&furnace, d, &numbers), d * d * cost);
+                let by = random.choose(&[1, d / 4 + 1, d]) * random.choose(&[-1, 1]);
+                numbers[random.below(lent.plan.len())] += by;
+                let is = check_rival(&furnace, d, &numbers);
+                beside[usize::from(!is)][place] += 1;
+            }
+        }
+    }
+    let mut counts = beside.iter().flatten();
+    assert!(counts.all(|count| *count > 100), "{beside:?}");
+}
+
+#[test]
+fn rounding_up_lowers_floors_of_all_sizes() {
+    // Of furnaces with 20 numbers and more: floors that are the same, and ones that are lower by
+    // almost one for each number.
+    let (mut same, mut most) = (0, 0);
+    for seed in SEEDS {
+        let case = case(seed);
+        let Ok(furnace) = read(&case.tape.bytes) else {
+            continue;
+        };
+        for lent in &case.judged {
+            if lent.multipliers.len() == furnace.multipliers_length() {
+                let by = lowered(&furnace, &lent_multipliers(&furnace, &lent.multipliers));
+                let numbers = furnace.plan_length() as Whole;
+                assert!((0..=numbers).contains(&by), "seed {seed}");
+                same += u32::from(numbers >= 20 && by == 0);
+                most += u32::from(numbers >= 20 && 10 * by >= 9 * numbers);
+            }
+        }
+    }
+    assert!(same > 100 && most > 100, "{same} {most}");
 }
 
 /// The furnace with curves that hold the references of command 30 on some of its columns that have

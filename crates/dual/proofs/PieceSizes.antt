@@ -7,11 +7,11 @@ use native.Mathlib.Nat.{le-refl}
 use lib.IntN.{ℤ, pos, negsuc, natAbs, _+ℤ_, _-ℤ_, _*ℤ_}
 use lib.Signed.{leZ}
 use Rattle.integer.specs.Order.{_≼_}
-use Rattle.integer.specs.Quotient.{_÷_}
+use Rattle.integer.specs.Quotient.{quotientUp}
 use Rattle.integer.proofs.Parts.{plus, times}
-use Rattle.integer.proofs.Order.{order, square-nonneg}
+use Rattle.integer.proofs.Order.{order, le-trans, square-nonneg, mul-cancel-nonneg}
 use Rattle.integer.proofs.Sizes.{size-parts, size-add, size-sub, size-mul, back, back-is, Formed, formed}
-use Rattle.integer.proofs.Quotient.{quotient-most, quotient-least}
+use Rattle.integer.proofs.Quotient.{up-enough, up-least}
 use Rattle.integer.proofs.Tests.{by-test}
 use Rattle.commands.specs.Ranges.{mostNumber}
 use Rattle.problem.specs.Model.{Term}
@@ -58,10 +58,11 @@ size-conjugate : (p s : ℤ) → pos 1 ≼ p → natAbs s ≤ 80000 * natAbs p �
 size-conjugate (pos n) s h k =
     let d = pos 4 *ℤ pos n in
     let one : pos 1 ≼ d = omega (arith, order) in
-    let low = quotient-most (s *ℤ s) d (pos 0) one (omega (arith, order, square-nonneg s)) in
+    let q = quotientUp (s *ℤ s) d in
+    let low : pos 0 ≼ q = mul-cancel-nonneg d one (le-trans (square-nonneg s) (up-enough (s *ℤ s) d one)) in
     let square = size-mul s s k k in
-    let high = quotient-least (s *ℤ s) d (pos (1600000000 * n)) one (omega (arith, order, size-parts (s *ℤ s))) in
-    rw (conjugate-is (pos n) s h) (omega (arith, order, size-parts (s *ℤ s ÷ d)))
+    let high = up-least (s *ℤ s) d (pos (1600000000 * n)) one (omega (arith, order, size-parts (s *ℤ s))) in
+    rw (conjugate-is (pos n) s h) (omega (arith, order, size-parts q))
 size-conjugate (negsuc n) s h k = absurd (h .le)
 
 module _ {t : Term} (g : Ranged t) (s : ℤ) where

@@ -9,7 +9,7 @@ use native.Mathlib.Omega.{arith}
 use native.Mathlib.Nat.{mul-le-mul-left}
 use native.Mathlib.Decide.{decLe}
 use lib.Dec.{T, leb→le, le→leb, ltb→lt, lt→ltb}
-use lib.IntN.{ℤ, pos, negsuc, _+ℤ_, _-ℤ_, _*ℤ_}
+use lib.IntN.{ℤ, pos, negsuc, _+ℤ_, _-ℤ_, _*ℤ_, *ℤ-zero}
 use lib.Signed.{leZ, ltZ}
 use Rattle.integer.specs.Order.{_≼_, _≺_}
 use Rattle.integer.proofs.Ring.{ring, K, _⊕_, _⊖_, _⊗_, _≐_}
@@ -130,6 +130,11 @@ pub square-nonneg : (a : ℤ) → pos 0 ≼ a *ℤ a
 square-nonneg (pos n) = omega (arith, order)
 square-nonneg (negsuc n) = omega (arith, order)
 
+pub mul-from-one : {a b : ℤ} → pos 1 ≼ a → pos 1 ≼ b → pos 1 ≼ a *ℤ b
+mul-from-one {a} {b} h k =
+    le-by ((a -ℤ pos 1) *ℤ b +ℤ (b -ℤ pos 1)) (add-nonneg (mul-nonneg {b = b} (diff-nonneg h) (omega (arith, order))) (diff-nonneg k))
+    (ring 2 (λ a b. K 1 ⊕ ((a ⊖ K 1) ⊗ b ⊕ (b ⊖ K 1)) ≐ a ⊗ b) tt a b)
+
 -- a factor from 0 on keeps the order
 pub mul-le : (k : ℤ) {a b : ℤ} → pos 0 ≼ k → a ≼ b → k *ℤ a ≼ k *ℤ b
 mul-le (pos k) {a} {b} n h = omega (arith, order, times (pos k) a, times (pos k) b, mul-le-mul-left k (le→ h))
@@ -157,6 +162,9 @@ mul-cancel-le k {a} {b} p h = go (le-or-lt a b)
     go : (a ≼ b) ⊎ (b ≺ a) → a ≼ b
     go (inl q) = q
     go (inr q) = let z : ⊥ = omega (arith, le→ h, lt→ (mul-lt k p q)) in absurd z
+
+pub mul-cancel-nonneg : (k : ℤ) {a : ℤ} → pos 1 ≼ k → pos 0 ≼ k *ℤ a → pos 0 ≼ a
+mul-cancel-nonneg k p h = mul-cancel-le k p (rw *ℤ-zero h)
 
 pub mul-cancel : (k : ℤ) {a b : ℤ} → pos 1 ≼ k → k *ℤ a ≡ k *ℤ b → a ≡ b
 mul-cancel k {a} {b} p e =

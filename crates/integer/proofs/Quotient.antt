@@ -1,16 +1,17 @@
--- The quotient rounded down, for a divisor from 1: what fixes it, and how the machine's quotient, rounded toward 0, gives it.
+-- The quotient rounded down and the one rounded up, for a divisor from 1: what fixes them, and how the machine's quotient, rounded toward
+-- 0, gives them.
 use Prim.Native.Nat.{ℕ, suc, _+_, _*_, _/_, _<_, _≤_}
 use mathlib.Core.Path.{_≡_, refl, sym, _∙_, ap}
 use native.Mathlib.Omega.{arith}
 use native.Mathlib.Nat.{div-add-mod, mod-lt, div-le-self}
-use lib.IntN.{ℤ, pos, negsuc, natAbs, _+ℤ_, _-ℤ_, _*ℤ_}
+use lib.IntN.{ℤ, pos, negsuc, negℤ, natAbs, _+ℤ_, _-ℤ_, _*ℤ_}
 use lib.Signed.{quotZ}
 use mir.Syntax.{Width}
 use mir.Val.{SFits, ofZ}
 use Rattle.integer.specs.Order.{_≼_, _≺_}
-use Rattle.integer.specs.Quotient.{_÷_}
+use Rattle.integer.specs.Quotient.{_÷_, quotientUp}
 use Rattle.integer.proofs.Parts.{up, dn, plus, minus, negated, times}
-use Rattle.integer.proofs.Ring.{ring, K, _⊕_, _⊖_, _⊗_, _≐_}
+use Rattle.integer.proofs.Ring.{ring, K, ⊝, _⊕_, _⊖_, _⊗_, _≐_}
 use Rattle.integer.proofs.Order.{order, le-by, mul-cancel-lt, diff-nonneg}
 use Rattle.integer.proofs.Sizes.{fit, →fits}
 
@@ -79,6 +80,47 @@ pub fits-quotient : {w : Width} (z d : ℤ) → SFits w z → SFits w (z ÷ d)
 unfolding _÷_
 fits-quotient (pos a) d f = →fits (omega (arith, fit f, div-le-self a (natAbs d)))
 fits-quotient (negsuc a) d f = →fits (omega (arith, fit f, div-le-self a (natAbs d)))
+
+-- ---- Rounded up: the least whole number q with z ≤ d q
+
+pub up-enough : (z d : ℤ) → pos 1 ≼ d → z ≼ d *ℤ quotientUp z d
+unfolding quotientUp
+up-enough z d p =
+    le-by _ (diff-nonneg (quotient-low (negℤ z) d p)) (ring 3 (λ z d c. z ⊕ (⊝ z ⊖ d ⊗ c) ≐ d ⊗ ⊝ c) tt z d (negℤ z ÷ d))
+
+pub up-least : (z d q : ℤ) → pos 1 ≼ d → z ≼ d *ℤ q → quotientUp z d ≼ q
+unfolding quotientUp
+up-least z d q p h =
+    let l = quotient-most (negℤ z) d (negℤ q) p (le-by _ (diff-nonneg h) (ring 3 (λ z d q. d ⊗ ⊝ q ⊕ (d ⊗ q ⊖ z) ≐ ⊝ z) tt z d q)) in
+    omega (arith, order, negated q, negated (negℤ z ÷ d))
+
+-- it is the quotient rounded down, or one more
+pub up-down : (z d : ℤ) → pos 1 ≼ d → (z ÷ d ≼ quotientUp z d) × (quotientUp z d ≼ z ÷ d +ℤ pos 1)
+up-down z d p =
+    let q = quotientUp z d in (
+      quotient-least z d q p (rw (ring 2 (λ d q. d ⊗ (q ⊕ K 1) ≐ d ⊗ q ⊕ d) tt d q) (omega (arith, order, up-enough z d p, plus (d *ℤ q) d))),
+      up-least z d (z ÷ d +ℤ pos 1) p (omega (arith, order, quotient-high z d p)),
+    )
+
+pub up-shift : (d x y : ℤ) → pos 1 ≼ d → quotientUp (d *ℤ x +ℤ y) d ≡ x +ℤ quotientUp y d
+unfolding quotientUp
+up-shift d x y p =
+    rw (ring 3 (λ d x y. ⊝ (d ⊗ x ⊕ y) ≐ d ⊗ ⊝ x ⊕ ⊝ y) tt d x y, quotient-shift d (negℤ x) (negℤ y) p)
+    (ring 2 (λ x c. ⊝ (⊝ x ⊕ c) ≐ x ⊕ ⊝ c) tt x (negℤ y ÷ d))
+
+-- and one rounded down, of d − 1 more
+pub up-is : (z d : ℤ) → pos 1 ≼ d → (z +ℤ (d -ℤ pos 1)) ÷ d ≡ quotientUp z d
+up-is z d p =
+    let y = z +ℤ (d -ℤ pos 1) in
+    let q = y ÷ d in
+    let next : (a : ℤ) → d *ℤ (a +ℤ pos 1) ≡ d *ℤ a +ℤ d = λ a. ring 2 (λ d a. d ⊗ (a ⊕ K 1) ≐ d ⊗ a ⊕ d) tt d a in
+    let above = rw (next q) at (quotient-high y d p) in
+    let low = up-least z d q p (omega (arith, order, plus (d *ℤ q) d, plus z (d -ℤ pos 1), minus d (pos 1))) in
+    let u = quotientUp z d in
+    let high =
+    quotient-least y d u p (rw (next u) (omega (arith, order, up-enough z d p, plus (d *ℤ u) d, plus z (d -ℤ pos 1), minus d (pos 1))))
+    in
+    omega (arith, order)
 
 -- ---- The machine's division
 

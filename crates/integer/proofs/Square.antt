@@ -1,24 +1,29 @@
--- The quotient of a square: with a = s ÷ d and b = s − a d, s s ÷ d is a (s + b) + b b ÷ d.
+-- The quotient of a square, rounded up: with a = s ÷ d and b = s − a d it is a (s + b) and that of b b.
 use Prim.Native.Nat.{_^_, _<_, _≤_}
 use mathlib.Core.Path.{_≡_, sym, _∙_, ap}
 use native.Mathlib.Omega.{arith}
 use native.Mathlib.Nat.{le-refl}
 use lib.IntN.{ℤ, pos, negsuc, natAbs, _+ℤ_, _-ℤ_, _*ℤ_, *ℤ-comm}
 use Rattle.integer.specs.Order.{_≼_, _≺_}
-use Rattle.integer.specs.Quotient.{_÷_}
+use Rattle.integer.specs.Quotient.{_÷_, quotientUp}
 use Rattle.integer.proofs.Parts.{plus, minus, times}
 use Rattle.integer.proofs.Ring.{ring, K, _⊕_, _⊖_, _⊗_, _≐_}
-use Rattle.integer.proofs.Order.{order, diff-nonneg}
+use Rattle.integer.proofs.Order.{order, diff-nonneg, add-nonneg, square-nonneg}
 use Rattle.integer.proofs.Sizes.{size-parts, size-by, size-add, size-mul}
-use Rattle.integer.proofs.Quotient.{quotient-low, quotient-high, quotient-most, quotient-least, quotient-shift}
+use Rattle.integer.proofs.Quotient.{quotient-low, quotient-high, quotient-most, quotient-least, up-shift, up-is}
 
 abbrev pub rest : ℤ → ℤ → ℤ
 rest s d = s -ℤ (s ÷ d) *ℤ d
 
-pub square-quotient : (s d : ℤ) → pos 1 ≼ d → (s ÷ d) *ℤ (s +ℤ rest s d) +ℤ (rest s d *ℤ rest s d) ÷ d ≡ (s *ℤ s) ÷ d
+-- b b and d − 1, which the quotient rounded down then rounds up
+abbrev pub raised : ℤ → ℤ → ℤ
+raised s d = rest s d *ℤ rest s d +ℤ (d -ℤ pos 1)
+
+pub square-quotient : (s d : ℤ) → pos 1 ≼ d → (s ÷ d) *ℤ (s +ℤ rest s d) +ℤ raised s d ÷ d ≡ quotientUp (s *ℤ s) d
 square-quotient s d h =
-    sym (quotient-shift d ((s ÷ d) *ℤ (s +ℤ rest s d)) (rest s d *ℤ rest s d) h)
-    ∙ ap (λ (z : ℤ). z ÷ d)
+    ap (λ (z : ℤ). (s ÷ d) *ℤ (s +ℤ rest s d) +ℤ z) (up-is (rest s d *ℤ rest s d) d h)
+    ∙ sym (up-shift d ((s ÷ d) *ℤ (s +ℤ rest s d)) (rest s d *ℤ rest s d) h)
+    ∙ ap (λ (z : ℤ). quotientUp z d)
     (ring 3 (λ s d a. d ⊗ (a ⊗ (s ⊕ (s ⊖ a ⊗ d))) ⊕ (s ⊖ a ⊗ d) ⊗ (s ⊖ a ⊗ d) ≐ s ⊗ s) tt s d (s ÷ d))
 
 -- ---- No step passes 64 bits
@@ -61,3 +66,12 @@ module _ (s d : ℤ) (p : Sized s d) where
 
   pub size-square : natAbs (rest s d *ℤ rest s d) ≤ 2 ^ 44
   size-square = size-mul (rest s d) (rest s d) size-rest size-rest
+
+  pub size-less : natAbs (d -ℤ pos 1) ≤ 2 ^ 22
+  size-less = let l = p .low in let h = p .high in omega (arith, order, minus d (pos 1), size-parts (d -ℤ pos 1))
+
+  pub size-raised : natAbs (raised s d) ≤ 2 ^ 45
+  size-raised = omega (arith, size-add (rest s d *ℤ rest s d) (d -ℤ pos 1) size-square size-less)
+
+  pub raised-nonneg : pos 0 ≼ raised s d
+  raised-nonneg = add-nonneg (square-nonneg (rest s d)) (diff-nonneg divisor)

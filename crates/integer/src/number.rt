@@ -1,10 +1,10 @@
-// Quotients rounded down, limits and sizes.
+// Quotients, limits and sizes.
 ghost use Prim.Native.Nat.{_^_, _<_};
 ghost use mathlib.Core.Path.{_≡_};
 ghost use lib.IntN.{pos, natAbs, _*ℤ_};
 ghost use Rattle.integer.specs.Limited.{limited};
 ghost use Rattle.integer.specs.Order.{_≼_};
-ghost use Rattle.integer.specs.Quotient.{_÷_};
+ghost use Rattle.integer.specs.Quotient.{_÷_, quotientUp};
 ghost use Rattle.integer.specs.Tests.{outside};
 
 // x / d rounded down. Every divisor of document 01 is from 1: 4,096, 65,536, k + 2 and 2P, by which
@@ -52,16 +52,16 @@ pub fn size(x: i64) -> u64
     x as u64
 }
 
-// s * s / d rounded down, exact where s * s is beyond 64 bits: with s = a * d + b the square is
+// s * s / d rounded up, exact where s * s is beyond 64 bits: with s = a * d + b the square is
 // a * (s + b) times d, and b * b. The divisor is 4P, with P from 4,096 to 4,096 * 255; in the third
 // piece the size of s is at most 80,000 P, below 2^37.
 pub fn square_quotient(s: i64, d: i64) -> i64
     requires { ⌜ (natAbs s < 2 ^ 37) × (pos 16384 ≼ d) × (d ≼ pos 4177920) ⌝ }
-    ensures { λ r. ⌜ r ≡ (s *ℤ s) ÷ d ⌝ }
+    ensures { λ r. ⌜ r ≡ quotientUp (s *ℤ s) d ⌝ }
 {
     let a = quotient(s, d);
     let b = s - a * d;
     let mut total = a * (s + b);
-    total += b * b / d;
+    total += (b * b + (d - 1)) / d;
     total
 }

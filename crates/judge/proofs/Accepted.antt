@@ -85,7 +85,7 @@ module _ (t : Tape) (ok : Legal t) (plan y : List ℤ) where
   unfolding gapWithin
   backed-check Passed e l =
       by-test (λ j. Backed j t plan y) (ltZ (t .wanted) (gapOf t plan y)) (λ _. tt)
-      (λ _. record { itself = record { long = l; follows = follows (problemOf t) v e }; reported = refl; bound = λ rival r. gap-below-rivals t ok plan y rival r })
+      (λ _. record { itself = record { long = l; follows = follows (problemOf t) v e }; reported = refl; bound = λ D rival r. gap-below-rivals t ok D rival r plan y })
   backed-check (Failed why) e l = tt
 
   backed-on : Backed (judgedOn t plan y) t plan y
@@ -104,7 +104,7 @@ founded-on t ok y =
     by-test (λ j. Founded j t) (wrongMultipliersLength t y) (λ _. tt)
     (λ _. by-test (λ j. Founded j t) (wrongMultipliers y) (λ _. tt)
     (λ _. by-test (λ j. Founded j t) (shows (problemOf t) (multipliersOf (t .n) y))
-    (λ e. record { none = λ rival r. impossible t ok y rival e r }) (λ _. tt)))
+    (λ e. record { none = λ D rival r. impossible t ok D rival r y e }) (λ _. tt)))
 
 -- ---- The answers of the calls
 

@@ -7,7 +7,7 @@ use mathlib.Core.Bool.{cond}
 use mathlib.Core.List.{List, [], _∷_, _++_, map}
 use lib.IntN.{ℤ, pos, negsuc}
 use Rattle.integer.specs.Operand.{unsigned, signed}
-use Rattle.integer.specs.Quotient.{_÷_}
+use Rattle.integer.specs.Quotient.{_÷_, quotientUp}
 use Rattle.integer.specs.Sum.{sum}
 use Rattle.integer.specs.Tests.{outside, any}
 use Rattle.commands.specs.Format.{pairCommand, sizeCommand, driftCommand, columnCommand, startCommand, roundsCommand, decoded, wrongSize, beyond, wrongColumn, wrong}
@@ -67,7 +67,7 @@ rows F G =
     ∷ (floorOf G (negsuc 99 ∷ []), pos 48435200) ∷ (ceiling (problemOf G), pos 16793600)
     ∷ (cond (shows (problemOf G) (multipliersOf 1 (negsuc 99 ∷ []))) (pos 1) (pos 0), pos 1)
     -- M10
-    ∷ (piece (problemOf G .stateTerm 0 0) (pos 409600), pos 92160000) ∷ (piece (problemOf G .stateTerm 0 0) (pos 409599), pos 92159800)
+    ∷ (piece (problemOf G .stateTerm 0 0) (pos 409600), pos 92160000) ∷ (piece (problemOf G .stateTerm 0 0) (pos 409599), pos 92159799)
     ∷ []
 
 abbrev pub table : List (ℤ × ℤ)
@@ -117,5 +117,5 @@ abbrev all : List (ℤ × ℤ)
 all = table ++ curveTable ++ weightlessTable
 
 figures : map (λ f. f .0) all ≡ map (λ f. f .1) all
-unfolding rows curveRows weightlessRows unsigned signed _÷_ sum pairCommand sizeCommand driftCommand columnCommand startCommand roundsCommand decoded wrongSize beyond outside any wrongColumn wrong among curved onCurve required obeySize obeyEntry absent obeyEnd obey next readFrom reading stepReference stateAt modelSum rounded total cost planCost inputSlope adjoint carried stateSlope unweighted conjugate tilt piece pieces constant sizes floor larger most ceiling
+unfolding rows curveRows weightlessRows unsigned signed _÷_ quotientUp sum pairCommand sizeCommand driftCommand columnCommand startCommand roundsCommand decoded wrongSize beyond outside any wrongColumn wrong among curved onCurve required obeySize obeyEntry absent obeyEnd obey next readFrom reading stepReference stateAt modelSum rounded total cost planCost inputSlope adjoint carried stateSlope unweighted conjugate tilt piece pieces constant sizes floor larger most ceiling
 figures = refl

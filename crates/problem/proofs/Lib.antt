@@ -3,8 +3,11 @@ pub mod Total
 pub mod Lagrangian
 pub mod Piece
 pub mod Ceiling
-pub mod Relaxed
 pub mod Bound
 pub mod Duality
+pub mod Whole
+pub mod Units
+pub mod Rounded
+pub mod Between
 pub mod Congruence
 pub mod Figures

@@ -1,15 +1,15 @@
 -- Sums over a plan's numbers.
 use Prim.Native.Nat.{ℕ, zero, suc, _<_}
-use mathlib.Core.Path.{_≡_, _∙_, ap₂}
+use mathlib.Core.Path.{_≡_, sym, _∙_, ap₂}
 use native.Mathlib.Omega.{arith}
 use native.Mathlib.Decide.{decLe}
-use lib.IntN.{ℤ, pos, _+ℤ_, _-ℤ_}
+use lib.IntN.{ℤ, pos, _+ℤ_, _-ℤ_, _*ℤ_}
 use Rattle.integer.specs.Order.{_≼_}
 use Rattle.integer.specs.Sum.{sum}
 use Rattle.integer.proofs.Parts.{plus}
-use Rattle.integer.proofs.Ring.{ring, _⊕_, _⊖_, _≐_}
+use Rattle.integer.proofs.Ring.{ring, mul-add, _⊕_, _⊖_, _≐_}
 use Rattle.integer.proofs.Order.{order, add-le, add-nonneg}
-use Rattle.integer.proofs.Sum.{sum-cong, sum-add, sum-sub, sum-le}
+use Rattle.integer.proofs.Sum.{sum-cong, sum-add, sum-sub, sum-mul, sum-le}
 use Rattle.problem.specs.Cost.{total}
 
 module _ (n m horizon : ℕ) where
@@ -36,6 +36,13 @@ module _ (n m horizon : ℕ) where
       (λ k h. ap₂ (λ (p q : ℤ). p +ℤ q) (sum-sub m (f k) (f′ k)) (sum-sub n (g k) (g′ k))
       ∙ ring 4 (λ a b c d. (a ⊖ b) ⊕ (c ⊖ d) ≐ (a ⊕ c) ⊖ (b ⊕ d)) tt (sum m (f k)) (sum m (f′ k)) (sum n (g k)) (sum n (g′ k)))
       ∙ sum-sub horizon (λ k. sum m (f k) +ℤ sum n (g k)) (λ k. sum m (f′ k) +ℤ sum n (g′ k))
+
+  pub total-mul : (c : ℤ) (f g : ℕ → ℕ → ℤ) → total n m horizon (λ k j. c *ℤ f k j) (λ k i. c *ℤ g k i) ≡ c *ℤ total n m horizon f g
+  unfolding total
+  total-mul c f g =
+      sum-cong horizon _ _
+      (λ k h. ap₂ (λ (p q : ℤ). p +ℤ q) (sum-mul m c (f k)) (sum-mul n c (g k)) ∙ sym (mul-add c (sum m (f k)) (sum n (g k))))
+      ∙ sum-mul horizon c (λ k. sum m (f k) +ℤ sum n (g k))
 
   pub total-le : (f g f′ g′ : ℕ → ℕ → ℤ) → ((k j : ℕ) → k < horizon → j < m → f k j ≼ f′ k j) →
       ((k i : ℕ) → k < horizon → i < n → g k i ≼ g′ k i) → total n m horizon f g ≼ total n m horizon f′ g′

@@ -1,4 +1,4 @@
--- Document 01, "Limits and cost" and "What demand 3 compares".
+-- Document 01, "Limits and cost".
 use Prim.Native.Nat.{ℕ, _+_, _*_, _<_}
 use mathlib.Core.Path.{_≡_}
 use mathlib.Core.List.{List}
@@ -34,8 +34,8 @@ pub record Follows (q : Problem) (v : Plan) : Type 0 where
   pub states-meet : (k i : ℕ) → k < q .horizon → i < q .n → v .x k i ≡ rounded (sumAt q v k i)
   pub states-within : (k i : ℕ) → k < q .horizon → i < q .n → Within (q .stateTerm k i) (v .x k i)
 
--- A rival: any plan of N(n+m) whole numbers that follows the tape.
-pub record Rival (t : Tape) (v : List ℤ) : Type 0 where
+-- The same of N(n+m) whole numbers.
+pub record FollowsTape (t : Tape) (v : List ℤ) : Type 0 where
   pub long : length v ≡ t .horizon * (t .n + t .m)
   pub follows : Follows (problemOf t) (planOf (t .n) (t .m) v)
 

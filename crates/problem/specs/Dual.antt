@@ -5,7 +5,7 @@ use mathlib.Core.List.{List}
 use lib.Dec.{ltb}
 use lib.IntN.{ℤ, pos, negsuc, natAbs, _+ℤ_, _-ℤ_, _*ℤ_}
 use lib.Signed.{leZ, ltZ}
-use Rattle.integer.specs.Quotient.{_÷_}
+use Rattle.integer.specs.Quotient.{quotientUp}
 use Rattle.integer.specs.Sum.{sum}
 use Rattle.tape.specs.declared.Tape.{Tape}
 use Rattle.problem.specs.Model.{Term, Problem, problemOf, multipliersOf}
@@ -29,7 +29,7 @@ carried n horizon A y k i = cond (ltb (k + 1) horizon) (adjoint n A y (k + 1) i)
 unfoldable pub stateSlope : ℕ → ℕ → (ℕ → ℕ → ℤ) → (ℕ → ℕ → ℤ) → ℕ → ℕ → ℤ
 stateSlope n horizon A y k i = negsuc 4095 *ℤ y k i +ℤ carried n horizon A y k i
 
--- ---- Pieces: the least of P (v − r)² + s v over the whole numbers v from lo to hi, or less
+-- ---- Pieces: the least of P (v − r)² + s v over the numbers v from lo to hi, rounded down where it is not whole
 
 -- P = 0: a column of weight 0 (document 02, request 4). P is never below 0.
 abbrev pub weightless : ℤ → Bool
@@ -39,9 +39,9 @@ weightless p = leZ p (pos 0)
 unfoldable pub unweighted : ℤ → ℤ → ℤ → ℤ
 unweighted lo hi s = cond (leZ (pos 0) s) lo hi
 
--- s² / 4P, rounded down; 0 at P = 0, where no piece has it.
+-- s² / 4P, rounded up, since rivals lie between whole units too (document 02, request 7); 0 at P = 0, where no piece has it.
 unfoldable pub conjugate : ℤ → ℤ → ℤ
-conjugate p s = cond (weightless p) (pos 0) (square s ÷ (pos 4 *ℤ p))
+conjugate p s = cond (weightless p) (pos 0) (quotientUp (square s) (pos 4 *ℤ p))
 
 -- 2P (v − r) + s.
 unfoldable pub tilt : Term → ℤ → ℤ → ℤ

@@ -1,4 +1,5 @@
--- Document 01's sections, in its order.
+-- Document 01's sections, in its order; demand 3's rivals stand beside the cost that it compares.
 pub mod Model
 pub mod Cost
+pub mod Rival
 pub mod Dual

@@ -30,7 +30,7 @@ use Rattle.tape.specs.Refusals.{row, figure}
 use Rattle.tape.specs.Tape.{zeros}
 use Rattle.tape.proofs.Facts.{legal}
 use Rattle.problem.specs.Model.{problemOf, planOf, multipliersOf}
-use Rattle.problem.specs.Cost.{Rival, costOf}
+use Rattle.problem.specs.Cost.{FollowsTape, costOf}
 use Rattle.problem.specs.Dual.{floorOf, shows}
 use Rattle.lent.specs.declared.walk.Check.{Check}
 use Rattle.lent.specs.declared.walk.Check.the-variants as check
@@ -42,6 +42,7 @@ use Rattle.judge.specs.declared.Shown.{Shown}
 use Rattle.judge.specs.declared.Shown.the-variants as shown
 use Rattle.judge.specs.Judging.{gapWithin, afterCheck, judgedOn, judgedAfterRead, shownOn, shownAfterRead}
 use Rattle.judge.specs.Judging as judging
+use Rattle.judge.proofs.Units.{in-whole-units}
 use Rattle.solver.specs.declared.Solved.{Solved}
 use Rattle.solver.specs.declared.Solved.the-variants.{Proved, Impossible, Refused}
 use Rattle.solver.specs.Demand.{Upheld, JudgedAgain}
@@ -57,8 +58,8 @@ use Rattle.recorder.specs.Recording.{sizesOf, unanswered, recordOf, reco
 -- ---- A plan that follows the tape
 
 -- its numbers lie within the limits, and so within the range of limits
-rival-within : (t : Tape) → Legal t → (plan : List ℤ) → Rival t plan → Bounded mostNumber plan
-rival-within t ok plan r = all-bounded plan (t .horizon * (t .n + t .m)) (r .long) number
+plan-within : (t : Tape) → Legal t → (plan : List ℤ) → FollowsTape t plan → Bounded mostNumber plan
+plan-within t ok plan r = all-bounded plan (t .horizon * (t .n + t .m)) (r .long) number
   where
     limited : (column : ℕ) (v : ℤ) → (at (t .low) column ≼ v) × (v ≼ at (t .high) column) → natAbs v ≤ mostNumber
     limited column v h =
@@ -153,9 +154,9 @@ module _ (s : List ℕ) (b : Bytes s) where
         rounds = h;
         outcome = (
           ok .steps .0,
-          omega (arith, order, u .0 .bound plan itself, minus (costOf t plan) gap),
+          omega (arith, order, in-whole-units t plan gap y (u .0) plan itself, minus (costOf t plan) gap),
           omega (arith, order, ok .wanted .1, g .1),
-          record { long = itself .long; within = rival-within t ok plan itself },
+          record { long = itself .long; within = plan-within t ok plan itself },
           g .2,
         );
       }

@@ -7,7 +7,7 @@ use lib.IntN.{pos, negsuc}
 use lib.ListN.{take}
 use Rattle.integer.specs.Limited.{limited}
 use Rattle.integer.specs.Operand.{unsigned, signed}
-use Rattle.integer.specs.Quotient.{_÷_}
+use Rattle.integer.specs.Quotient.{_÷_, quotientUp}
 use Rattle.integer.specs.Sum.{sum}
 use Rattle.integer.specs.Tests.{outside, any}
 use Rattle.commands.specs.Format.{pairCommand, sizeCommand, driftCommand, columnCommand, startCommand, roundsCommand, decoded, wrongSize, beyond, wrongColumn, wrong}
@@ -50,5 +50,5 @@ table =
     ∷ []
 
 pub figures : map (λ f. f .0) table ≡ map (λ f. text (f .1)) table
-unfolding solutionOf unsigned signed _÷_ sum pairCommand sizeCommand driftCommand columnCommand startCommand roundsCommand decoded wrongSize beyond outside wrongColumn wrong among curved onCurve required obeySize obeyEntry absent obeyEnd obey next readFrom reading stepReference stateAt modelSum rounded residual total cost planCost inputSlope adjoint carried stateSlope unweighted conjugate tilt piece pieces constant sizes floor larger most ceiling limited listed joined ahead minimiser modelStates dropped verdict ascended rounds solvingOn solving duty any digits
+unfolding solutionOf unsigned signed _÷_ quotientUp sum pairCommand sizeCommand driftCommand columnCommand startCommand roundsCommand decoded wrongSize beyond outside wrongColumn wrong among curved onCurve required obeySize obeyEntry absent obeyEnd obey next readFrom reading stepReference stateAt modelSum rounded residual total cost planCost inputSlope adjoint carried stateSlope unweighted conjugate tilt piece pieces constant sizes floor larger most ceiling limited listed joined ahead minimiser modelStates dropped verdict ascended rounds solvingOn solving duty any digits
 figures = refl

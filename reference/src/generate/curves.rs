@@ -47,7 +47,7 @@ pub(super) fn put_near_rest(furnace: &mut Furnace, random: &mut Random) {
 }
 
 /// Curves that jump from step to step, within the limits and a little beyond.
-fn put_wild(furnace: &mut Furnace, random: &mut Random) {
+pub(super) fn put_wild(furnace: &mut Furnace, random: &mut Random) {
     for c in chosen_columns(furnace, random) {
         let column = furnace.columns[c];
         let beyond = (column.hi - column.lo) / 4;

@@ -16,7 +16,7 @@ use crate::tape::{
 pub const MOST_GAP: Whole = 0xffff_ffff;
 
 /// [`sized`] with random sizes.
-fn blank(random: &mut Random) -> Furnace {
+pub(super) fn blank(random: &mut Random) -> Furnace {
     let states = 1 + random.below(MOST_STATES);
     let inputs = 1 + random.below(MOST_INPUTS);
     let horizon = 1 + random.below(MOST_STEPS);
@@ -175,7 +175,7 @@ fn put_columns(furnace: &mut Furnace, random: &mut Random, deviation: Whole) {
 }
 
 /// States that hardly move by themselves, and inputs that each heat some of them.
-fn put_entries(furnace: &mut Furnace, random: &mut Random) {
+pub(super) fn put_entries(furnace: &mut Furnace, random: &mut Random) {
     for i in 0..furnace.states {
         for j in 0..furnace.states {
             if i == j {

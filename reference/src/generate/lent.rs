@@ -3,9 +3,11 @@
 use super::faulty::faulty;
 use super::furnaces::best_candidate;
 use super::random::Random;
-use crate::calls::{input_place, solve, state_place, write_multipliers, write_plan};
+use crate::calls::{input_place, state_place, write_multipliers, write_plan};
 use crate::floor::MULTIPLIER_RANGE;
 use crate::model::{next_state, Furnace, Whole};
+use crate::quotient::solve_both;
+use crate::rounds::Outcome;
 
 /// A plan and multipliers as lent slices, of whatever lengths.
 #[derive(Clone, Debug, PartialEq, Eq)]
@@ -18,10 +20,17 @@ pub struct Lent {
     pub multipliers: Vec<i32>,
 }
 
+impl Lent {
+    /// Do both hold the same numbers?
+    fn equals(&self, other: &Lent) -> bool {
+        (&self.plan, &self.multipliers) == (&other.plan, &other.multipliers)
+    }
+}
+
 /// Slices to judge on an accepted tape.
 pub fn judged(tape: &[u8], furnace: &Furnace, random: &mut Random) -> Vec<Lent> {
     let mut all = Vec::new();
-    let solved = solved(tape, furnace, random);
+    let (solved, rounded_down) = solved(tape, furnace, random);
     if let Some(solved) = &solved {
         all.push(solved.clone());
         all.push(unit_in_plan(solved, random));
@@ -37,6 +46,8 @@ pub fn judged(tape: &[u8], furnace: &Furnace, random: &mut Random) -> Vec<Lent> 
             multipliers: solved.multipliers.clone(),
         });
     }
+    let is_solved = |lent: &Lent| solved.as_ref().is_some_and(|solved| solved.equals(lent));
+    all.extend(rounded_down.filter(|lent| !is_solved(lent)));
     let base = solved.unwrap_or_else(|| simulated.clone());
     all.push(simulated);
     all.push(in_range(furnace, random));
@@ -68,27 +79,46 @@ pub fn any_values(plan: usize, multipliers: usize, random: &mut Random) -> Lent 
     }
 }
 
-/// What a solve leaves; for an open tape the best candidate of its rounds.
-fn solved(tape: &[u8], furnace: &Furnace, random: &mut Random) -> Option<Lent> {
-    let mut plan = simulated(furnace, random).plan;
-    let mut multipliers = vec![0; furnace.multipliers_length()];
-    match solve(tape, &mut plan, &mut multipliers) {
-        Ok(_) => Some(Lent {
-            origin: "solved",
-            plan,
-            multipliers,
-        }),
-        Err(_) => {
-            let (best, y) = best_candidate(furnace)?;
-            write_plan(furnace, &best, &mut plan);
-            write_multipliers(furnace, &y, &mut multipliers);
-            Some(Lent {
-                origin: "best candidate",
-                plan,
-                multipliers,
-            })
-        }
+/// What a solve leaves; for an open tape the best candidate of its rounds. Then, what a solve with
+/// quotients rounded down would leave: where its answer comes earlier, 13 or 14 comes in its place.
+fn solved(tape: &[u8], furnace: &Furnace, random: &mut Random) -> (Option<Lent>, Option<Lent>) {
+    let plan = simulated(furnace, random).plan;
+    let multipliers = vec![0; furnace.multipliers_length()];
+    let mut lent = Lent {
+        origin: "solved",
+        plan,
+        multipliers,
+    };
+    let (answer, rounded_down) = solve_both(tape, &mut lent.plan, &mut lent.multipliers);
+    let rounded_down = left(furnace, &lent, rounded_down);
+    if answer.is_ok() {
+        return (Some(lent), rounded_down);
     }
+    let best = best_candidate(furnace).map(|(best, y)| {
+        lent.origin = "best candidate";
+        write_plan(furnace, &best, &mut lent.plan);
+        write_multipliers(furnace, &y, &mut lent.multipliers);
+        lent
+    });
+    (best, rounded_down)
+}
+
+/// What rounds with this outcome leave in the slices.
+fn left(furnace: &Furnace, slices: &Lent, outcome: Outcome) -> Option<Lent> {
+    let mut lent = slices.clone();
+    let multipliers = match outcome {
+        Outcome::Open => return None,
+        Outcome::Impossible { multipliers, .. } => multipliers,
+        Outcome::Proved {
+            plan, multipliers, ..
+        } => {
+            write_plan(furnace, &plan, &mut lent.plan);
+            multipliers
+        }
+    };
+    lent.origin = "quotients rounded down";
+    write_multipliers(furnace, &multipliers, &mut lent.multipliers);
+    Some(lent)
 }
 
 /// Random inputs within their limits and the states that the model gives, which may leave their

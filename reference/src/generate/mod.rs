@@ -6,6 +6,7 @@
 //! give what is to be imported. [`records`] has furnaces whose records have present numbers that
 //! look absent.
 
+mod ceilings;
 pub mod commands;
 pub mod curves;
 pub mod damage;

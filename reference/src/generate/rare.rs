@@ -1,5 +1,6 @@
 //! Furnaces of shapes that random numbers hardly have, tuned to end with 'proved' or 'impossible'.
 
+use super::ceilings;
 use super::curves;
 use super::furnaces::{
     near_rest, put_at_rest, put_near_rest, put_out_of_reach, sized, tuned_to_fail, tuned_to_prove,
@@ -26,8 +27,11 @@ enum Shape {
     Largest,
 }
 
-/// A furnace of any of the shapes.
+/// A furnace of any of the shapes, or with a floor at the ceiling.
 pub fn any(random: &mut Random) -> Furnace {
+    if random.one_in(12) {
+        return ceilings::any(random);
+    }
     let shape = random.choose(&[
         Shape::Below,
         Shape::Above,

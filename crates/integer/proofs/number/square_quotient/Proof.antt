@@ -3,16 +3,16 @@ use Prim.Native.Nat.{_<_}
 use mathlib.Core.Path.{_≡_, _∙_, ap}
 use native.Mathlib.Nat.{le-trans}
 use native.Mathlib.Omega.{arith}
-use lib.IntN.{ℤ, _+ℤ_, _*ℤ_}
+use lib.IntN.{ℤ, pos, _+ℤ_, _-ℤ_, _*ℤ_}
 use lib.Signed.{quotZ}
 use mir.Syntax.{w64}
 use mir.Val.{SFits, toZ, ofZ}
 use mir.Facts.{toZ-ofZ}
 use Rattle.integer.specs.Quotient.{_÷_}
-use Rattle.integer.proofs.Order.{order, square-nonneg}
+use Rattle.integer.proofs.Order.{order}
 use Rattle.integer.proofs.Sizes.{called, fits-by, size-add, size-mul}
 use Rattle.integer.proofs.Quotient.{divides, machine-quotient, size-quotient}
-use Rattle.integer.proofs.Square.{Sized, rest, square-quotient, divisor, size-divisor, size-whole, size-rest, size-both, size-front, size-square}
+use Rattle.integer.proofs.Square.{Sized, rest, raised, square-quotient, divisor, size-divisor, size-whole, size-rest, size-both, size-front, size-square, size-less, size-raised, raised-nonneg}
 use Rattle.integer.proofs.number.square_quotient.Statement.{statement}
 use Rattle.integer.proofs.number.square_quotient.Tie as tie
 use Rattle.integer.proofs.number.square_quotient.Reads as reads
@@ -56,18 +56,24 @@ module _ (c : Body) where
   square-fits : SFits w64 (rest s d *ℤ rest s d)
   square-fits = fits-by (rest s d *ℤ rest s d) (size-square s d (sized c)) (omega arith)
 
-  division : (0 < ofZ w64 d) × SFits w64 (quotZ (rest s d *ℤ rest s d) d)
-  division = divides (rest s d *ℤ rest s d) d (divisor s d (sized c)) square-fits
+  less-fits : SFits w64 (d -ℤ pos 1)
+  less-fits = fits-by (d -ℤ pos 1) (size-less s d (sized c)) (omega arith)
 
-  last-is : quotZ (rest s d *ℤ rest s d) d ≡ (rest s d *ℤ rest s d) ÷ d
-  last-is = machine-quotient (rest s d *ℤ rest s d) d (square-nonneg (rest s d)) (divisor s d (sized c))
+  raised-fits : SFits w64 (raised s d)
+  raised-fits = fits-by (raised s d) (size-raised s d (sized c)) (omega arith)
 
-  total-fits : SFits w64 ((s ÷ d) *ℤ (s +ℤ rest s d) +ℤ quotZ (rest s d *ℤ rest s d) d)
+  division : (0 < ofZ w64 d) × SFits w64 (quotZ (raised s d) d)
+  division = divides (raised s d) d (divisor s d (sized c)) raised-fits
+
+  last-is : quotZ (raised s d) d ≡ raised s d ÷ d
+  last-is = machine-quotient (raised s d) d (raised-nonneg s d (sized c)) (divisor s d (sized c))
+
+  total-fits : SFits w64 ((s ÷ d) *ℤ (s +ℤ rest s d) +ℤ quotZ (raised s d) d)
   total-fits =
       rw last-is
-      (fits-by ((s ÷ d) *ℤ (s +ℤ rest s d) +ℤ (rest s d *ℤ rest s d) ÷ d)
-      (size-add ((s ÷ d) *ℤ (s +ℤ rest s d)) ((rest s d *ℤ rest s d) ÷ d) (size-front s d (sized c))
-      (le-trans (size-quotient (rest s d *ℤ rest s d) d) (size-square s d (sized c)))) (omega arith))
+      (fits-by ((s ÷ d) *ℤ (s +ℤ rest s d) +ℤ raised s d ÷ d)
+      (size-add ((s ÷ d) *ℤ (s +ℤ rest s d)) (raised s d ÷ d) (size-front s d (sized c))
+      (le-trans (size-quotient (raised s d) d) (size-raised s d (sized c)))) (omega arith))
 
 quotient-requires : tie.Need-quotient-requires
 quotient-requires c κs = rw (toZ-ofZ (c .fits .d)) (let p = c .pre in omega (arith, order))
@@ -87,11 +93,30 @@ mul-total c = simp (whole-is c, s-is c, d-is c, toZ-ofZ (product-fits c), toZ-of
 mul-total-2 : tie.Need-mul-total-2
 mul-total-2 c = simp (whole-is c, s-is c, d-is c, toZ-ofZ (product-fits c), toZ-ofZ (rest-fits c)) (square-fits c)
 
-div-total : tie.Need-div-total
-div-total c = simp (whole-is c, s-is c, d-is c, toZ-ofZ (product-fits c), toZ-ofZ (rest-fits c), toZ-ofZ (square-fits c)) (division c)
+sub-total : tie.Need-sub-total
+sub-total c = simp (d-is c) (less-fits c)
 
 add-total-2 : tie.Need-add-total-2
 add-total-2 c =
+    simp (whole-is c, s-is c, d-is c, toZ-ofZ (product-fits c), toZ-ofZ (rest-fits c), toZ-ofZ (square-fits c), toZ-ofZ (less-fits c))
+    (raised-fits c)
+
+div-total : tie.Need-div-total
+div-total c =
+    simp (
+      whole-is c,
+      s-is c,
+      d-is c,
+      toZ-ofZ (product-fits c),
+      toZ-ofZ (rest-fits c),
+      toZ-ofZ (square-fits c),
+      toZ-ofZ (less-fits c),
+      toZ-ofZ (raised-fits c),
+    )
+    (division c)
+
+add-total-3 : tie.Need-add-total-3
+add-total-3 c =
     simp (
       whole-is c,
       s-is c,
@@ -101,6 +126,8 @@ add-total-2 c =
       toZ-ofZ (both-fits c),
       toZ-ofZ (front-fits c),
       toZ-ofZ (square-fits c),
+      toZ-ofZ (less-fits c),
+      toZ-ofZ (raised-fits c),
       toZ-ofZ (division c .1),
     )
     (total-fits c)
@@ -116,6 +143,8 @@ returns c =
       toZ-ofZ (both-fits c),
       toZ-ofZ (front-fits c),
       toZ-ofZ (square-fits c),
+      toZ-ofZ (less-fits c),
+      toZ-ofZ (raised-fits c),
       toZ-ofZ (division c .1),
       toZ-ofZ (total-fits c),
     )
@@ -123,4 +152,4 @@ returns c =
 
 pub square-quotient-spec : {M : Type 1} → statement M
 square-quotient-spec =
-    tie.close (tie.spec quotient-requires mul-b sub-b add-total mul-total mul-total-2 div-total add-total-2 returns)
+    tie.close (tie.spec quotient-requires mul-b sub-b add-total mul-total mul-total-2 sub-total add-total-2 div-total add-total-3 returns)

@@ -7,7 +7,7 @@ use std::process::{Command, ExitCode, Stdio};
 use crate::comparison::Comparison;
 use crate::guard::Beside;
 use crate::part::Part;
-use crate::{edges, faults, given, imports, records, slip, weights};
+use crate::{edges, faults, given, imports, records, slip, squares, weights};
 
 /// Says where a long run is once in so many tapes.
 const SAY_ONE_IN: u64 = 10_000;
@@ -105,6 +105,7 @@ pub fn add(comparison: &mut Comparison, part: Part) {
         Part::Missing => given::add_missing(comparison),
         Part::Slices => edges::add_slices(comparison),
         Part::Equal => edges::add_equal(comparison),
+        Part::Squares => squares::add_squares(comparison),
         Part::Faults => faults::add_faults(comparison),
         Part::Weights => weights::add_weights(comparison),
         Part::Records => records::add_records(comparison),

@@ -42,6 +42,14 @@ pub const PLAN_LENGTHS: &str = "plan lengths";
 pub const MULTIPLIER_LENGTHS: &str = "multiplier lengths";
 /// Of [`ALSO`]: multipliers whose floor is the ceiling.
 pub const EQUAL: &str = "floor equal to ceiling";
+/// Of [`ALSO`]: the square of a slope has 64 bits or less.
+pub const SMALL_SQUARES: &str = "squares of slopes";
+/// Of [`ALSO`]: it has more, and 4P leaves a rest.
+pub const LARGE_SQUARES: &str = "squares beyond 64 bits";
+/// Of [`ALSO`]: it has more, and 4P divides it.
+pub const WHOLE_QUOTIENT: &str = "squares beyond 64 bits, no rest";
+/// Of [`ALSO`]: it has more, and 4P leaves 1.
+pub const REST_OF_1: &str = "squares beyond 64 bits, a rest of 1";
 /// Of [`ALSO`]: plans with one number put wrong.
 pub const ONE_FAULT: &str = "plans with one fault at every place";
 /// Of [`ALSO`]: plans with a state that is the model's and passes a limit.
@@ -70,7 +78,7 @@ pub const FAULTY_ENTRIES: &str = "faulty entries of models";
 pub const IMPORTED: &str = "imported models read from a tape";
 
 /// The names under [`ALSO`].
-const ALSO_NAMES: [&str; 21] = [
+const ALSO_NAMES: [&str; 25] = [
     CUT,
     JUDGED,
     TAPE_LENGTHS,
@@ -79,6 +87,10 @@ const ALSO_NAMES: [&str; 21] = [
     PLAN_LENGTHS,
     MULTIPLIER_LENGTHS,
     EQUAL,
+    SMALL_SQUARES,
+    LARGE_SQUARES,
+    WHOLE_QUOTIENT,
+    REST_OF_1,
     ONE_FAULT,
     LIMITS_PASSED,
     SEVERAL_FAULTS,

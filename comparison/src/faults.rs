@@ -113,8 +113,8 @@ fn steady((n, m, steps): (usize, usize, usize), course: Course, random: &mut Ran
     furnace
 }
 
-/// A plan that follows the furnace's tape, with multipliers 0.
-fn followed(furnace: &Furnace, random: &mut Random) -> Lent {
+/// A plan that follows the furnace's tape where its states keep to their limits, with multipliers 0.
+pub fn followed(furnace: &Furnace, random: &mut Random) -> Lent {
     let mut plan = Plan {
         u: Vec::new(),
         x: vec![furnace.start.clone()],

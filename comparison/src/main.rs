@@ -15,6 +15,7 @@ mod memory;
 mod part;
 mod records;
 mod slip;
+mod squares;
 mod tune;
 mod weights;
 mod wrapper;
@@ -30,16 +31,16 @@ comparison compare [COUNT [SEED]]
     gives a drawn set of places, 50 entries and 2 models in floats, by the second program's
     generators and runs them through the nine calls of libplanner.a and through the second
     program; before them tapes, slices and models of every length, tapes without each of the
-    required places, plans with faults at every step and column, gaps of T and one above, tapes with
-    weights of 0 at the edges, records of every size and with numbers that look absent, entries
-    beside every number and every half, and inputs of the program slip. Every number of every answer
-    and of everything lent is compared, refusals included, with guard cells around what is lent,
-    floats bit by bit, records byte by byte; so are the words of a report and the text of the
-    program slip. Records are lent slices of wrong lengths too. Says every 10000 tapes on standard
-    error where it is. Prints how often each answer and each refusal came, and each difference with
-    its origin, everything lent and the command that repeats it. Fails if something differs or if a
-    count is 0, which is to be expected of a small COUNT. Where one side crashes, it names the
-    command that repeats that.
+    required places, squares of slopes beyond 64 bits at every weight, plans with faults at every
+    step and column, gaps of T and one above, tapes with weights of 0 at the edges, records of every
+    size and with numbers that look absent, entries beside every number and every half, and inputs
+    of the program slip. Every number of every answer and of everything lent is compared, refusals
+    included, with guard cells around what is lent, floats bit by bit, records byte by byte; so are
+    the words of a report and the text of the program slip. Records are lent slices of wrong lengths
+    too. Says every 10000 tapes on standard error where it is. Prints how often each answer and each
+    refusal came, and each difference with its origin, everything lent and the command that repeats
+    it. Fails if something differs or if a count is 0, which is to be expected of a small COUNT.
+    Where one side crashes, it names the command that repeats that.
 
 comparison compare-here COUNT SEED
     The same in this process, as `compare` runs it; a crash ends it. A line `at PART` on standard
@@ -51,11 +52,12 @@ comparison replay PART
     inputs of the program slip (slips), tapes of every length (tapes), the longest tape with a
     command left out, given again or alone (places), tapes of the largest sizes with all curves
     that lack one required place, two neighbours or more (missing), plans and multipliers of every
-    length (slices), floors at the ceiling (equal), plans with one fault, two and three at every step
-    and column, and gaps of T and one above (faults), every weight, and all weights 0 with other
-    numbers at their limits and with one number a column (weights), records of every size, with
-    numbers of FF throughout, and with the widest gap (records), entries beside numbers, halves and
-    powers of two (entries), models of every length and with a faulty entry at every place (models).
+    length (slices), floors at the ceiling (equal), squares of large slopes at every weight
+    (squares), plans with one fault, two and three at every step and column, and gaps of T and one
+    above (faults), every weight, and all weights 0 with other numbers at their limits and with one
+    number a column (weights), records of every size, with numbers of FF throughout, and with the
+    widest gap (records), entries beside numbers, halves and powers of two (entries), models of
+    every length and with a faulty entry at every place (models).
 
 comparison memory [COUNT [SEED]]
     Compares COUNT (200) cases, tapes with drawn places, and entries and models, with each thing

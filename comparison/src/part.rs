@@ -18,6 +18,8 @@ pub enum Part {
     Slices,
     /// Multipliers whose floor is the ceiling.
     Equal,
+    /// Squares of large slopes at every weight.
+    Squares,
     /// Plans that fail at every step and column, and gaps of T and one above.
     Faults,
     /// Weights of 0 at the edges.
@@ -40,13 +42,14 @@ pub enum Part {
 
 impl Part {
     /// All that have no seed.
-    pub const EDGES: [Part; 11] = [
+    pub const EDGES: [Part; 12] = [
         Part::Slips,
         Part::Tapes,
         Part::Places,
         Part::Missing,
         Part::Slices,
         Part::Equal,
+        Part::Squares,
         Part::Faults,
         Part::Weights,
         Part::Records,
@@ -83,6 +86,7 @@ impl fmt::Display for Part {
             Part::Missing => f.write_str("missing"),
             Part::Slices => f.write_str("slices"),
             Part::Equal => f.write_str("equal"),
+            Part::Squares => f.write_str("squares"),
             Part::Faults => f.write_str("faults"),
             Part::Weights => f.write_str("weights"),
             Part::Records => f.write_str("records"),

@@ -8,6 +8,7 @@ mod report;
 
 pub use given::GIVEN;
 pub use import::IMPORTS;
+pub use quotient::QUOTIENTS;
 pub use record::RECORDS;
 pub use report::REPORTS;
 

@@ -420,4 +420,11 @@ fn few_seeds_lead_to_every_answer() {
         let name = format!("refused {number}");
         assert!(counts.count(count::STEPS, &name) > 0, "{name} for a 31");
     }
+    let [judged, solved] = count::QUOTIENTS;
+    for name in ["gap larger", "13 in place of a gap", "14 in place of shown"] {
+        assert!(counts.count(judged, name) > 0, "{name}");
+    }
+    for name in ["proved, gap larger", "proved later", "impossible later"] {
+        assert!(counts.count(solved, name) > 0, "{name}");
+    }
 }

@@ -34,7 +34,7 @@ fn two_states_two_inputs_in_halves() {
         [(0, 0), (0, 1), (1, 0), (1, 1)].map(|(k, i)| residual(&furnace, 2, &PAIR_IN_HALVES, k, i));
     // A half of a half unit: 4096 × 73.5 − 4096 × 73.
     assert_eq!(residuals, [0, 0, 2_048, 0]);
-    // Half a unit more and less, 37 and 36, and one more each. From −4096 to 4096 is allowed.
+    // 36, 36.5, 37 and 37.5 leave 6144, 2048, −2048 and −6144. From −4096 to 4096 is allowed.
     for (number, is) in [(72, false), (73, true), (74, true), (75, false)] {
         let mut numbers = PAIR_IN_HALVES;
         numbers[6] = number;
@@ -48,7 +48,7 @@ fn two_states_two_inputs_in_halves() {
 
 #[test]
 fn every_place_of_a_rival_is_tested() {
-    // Limits of −1000 to 1000: a thousand units more at each place leaves them or the model.
+    // Five units more or less leave the model, a thousand the limits of −1000 to 1000 as well.
     let furnace = read(&with_search(PAIR_FRONT, 1, 1, 0)).unwrap();
     assert!(is_rival(&furnace, 2, &PAIR_IN_HALVES));
     for place in 0..8 {
@@ -62,6 +62,7 @@ fn every_place_of_a_rival_is_tested() {
     for d in [-2, 0, 1, 3] {
         assert!(!is_rival(&furnace, d, &PAIR_IN_HALVES), "{d}");
     }
+    assert!(!is_rival(&furnace, 0, &[0; 8]));
     assert!(!is_rival(&furnace, 2, &PAIR_IN_HALVES[..7]));
     assert!(!is_rival(
         &furnace,
@@ -286,18 +287,17 @@ fn rounding_up_puts_impossible_off() {
     assert_eq!(slip(&tape(at, 5)), "impossible\nrounds 3\n");
     assert_eq!(slip(&tape(at, 2)), "open\nrounds 2\n");
     assert_eq!(slip(&tape(above, 5)), "impossible\nrounds 2\n");
-    // With quotients rounded down the floor of y = 1 is 4,097.
+    // With quotients rounded down the floor of y = 1 is 4,097, and with w = 6,144 it is the ceiling.
     let (answer, down) = solve_both(&tape(at, 2), &mut [0, 0], &mut [0]);
     assert_eq!(answer, Err(Refusal::Open { rounds: 2 }));
-    let multipliers = vec![vec![1]];
-    let rounds = 2;
-    assert_eq!(
-        down,
-        Outcome::Impossible {
-            rounds,
-            multipliers
-        }
-    );
+    let (rounds, multipliers) = (2, vec![vec![1]]);
+    let impossible = Outcome::Impossible {
+        rounds,
+        multipliers,
+    };
+    assert_eq!(down, impossible);
+    let (_, down) = solve_both(&tape("00 18 00 00", 2), &mut [0, 0], &mut [0]);
+    assert_eq!(down, Outcome::Open);
 }
 
 #[test]
@@ -317,6 +317,9 @@ fn no_rival_nearby_is_below_the_floor() {
     assert!(below.range(..=227 * 8_192).all(|(_, count)| *count == 0));
     assert_eq!(below[&(1 << 21)], 83);
     assert!(below.range(228 * 8_192..).all(|(_, count)| *count > 0));
+    // An odd D has x = 1/2 − 1/2D, with 3 U + 2048 ≤ 0 and 4 U² < 2 D − 1: U is −683, from 932,979 on.
+    let odd = [932_977, 932_979].map(|d| rivals_below_1024(&furnace, d));
+    assert_eq!(odd, [0, 1]);
 }
 
 /// Tries all u from −1/1024 to 1/1024 with all x within 20/D of 1/2: no rival is below the floor. How

@@ -8,8 +8,11 @@ use crate::quotient::lowered;
 use crate::refusal::Refusal;
 use crate::rounds::Outcome;
 
+/// The headings of what is judged and of solves.
+pub const QUOTIENTS: [&str; 2] = ["judge, quotients rounded up", "solve, quotients rounded up"];
+
 /// The heading of what is judged.
-const JUDGED: &str = "judge, quotients rounded up";
+const JUDGED: &str = QUOTIENTS[0];
 
 /// The names under [`JUDGED`]. An answer comes in place of the one that quotients rounded down would
 /// give.
@@ -23,7 +26,7 @@ const JUDGED_NAMES: [&str; 6] = [
 ];
 
 /// The heading of solves.
-const SOLVED: &str = "solve, quotients rounded up";
+const SOLVED: &str = QUOTIENTS[1];
 
 /// The names under [`SOLVED`].
 const SOLVED_NAMES: [&str; 7] = [

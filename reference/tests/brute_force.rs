@@ -292,19 +292,26 @@ fn rounding_up_lowers_the_floor_by_at_most_one_for_each_number() {
     assert!(possible.iter().all(|count| *count > 50), "{counts:?}");
 }
 
+/// A column with limits up to 30 apart, and a reference between them or not.
+fn column_of(weight: Whole, random: &mut Random) -> Column {
+    let lo = random.between(-30, 30);
+    Column {
+        lo,
+        hi: lo + random.between(0, 30),
+        reference: random.between(-60, 60),
+        weight,
+    }
+}
+
 #[test]
 fn piece_is_the_largest_whole_number_under_all_fractions() {
     let mut random = Random::new(10);
     // By the number of the piece, the third one whole or not: the fourth.
     let mut tried = [0; 4];
     for _ in 0..20_000 {
-        let lo = random.between(-30, 30);
-        let column = Column {
-            lo,
-            hi: lo + random.between(0, 30),
-            reference: random.between(-60, 60),
-            weight: random.between(1, 3),
-        };
+        let weight = random.between(1, 3);
+        let column = column_of(weight, &mut random);
+        let Column { lo, hi, .. } = column;
         let (p, r) = (4096 * column.weight, column.reference);
         let (range, grain) = random.choose(&[(20_000, 1), (600_000, 1), (600_000, 4096)]);
         let s = random.between(-range, range) / grain * grain;
@@ -312,8 +319,8 @@ fn piece_is_the_largest_whole_number_under_all_fractions() {
         // nearer end where that is outside the limits. In units of 1/D²:
         let d = 2 * p;
         let value = |v: Whole| p * (v - d * r) * (v - d * r) + s * v * d;
-        let best = (d * r - s).clamp(d * lo, d * column.hi);
-        let beside = [-d, -1, 0, 1, d].map(|by| (best + by).clamp(d * lo, d * column.hi));
+        let best = (d * r - s).clamp(d * lo, d * hi);
+        let beside = [-d, -1, 0, 1, d].map(|by| (best + by).clamp(d * lo, d * hi));
         let least = beside.map(value).into_iter().min().unwrap();
         assert_eq!(least, value(best));
         let piece = piece(&column, s);
@@ -321,7 +328,7 @@ fn piece_is_the_largest_whole_number_under_all_fractions() {
         assert!(d * d * piece <= least && least < d * d * (piece + 1));
         let place = match best {
             v if v == d * lo => 0,
-            v if v == d * column.hi => 1,
+            v if v == d * hi => 1,
             _ if whole => 2,
             _ => 3,
         };
@@ -336,20 +343,15 @@ fn piece_and_minimiser_of_weight_0_against_all_numbers() {
     // By the sign of the slope: below 0, 0, above.
     let mut tried = [0; 3];
     for _ in 0..20_000 {
-        let lo = random.between(-30, 30);
-        let column = Column {
-            lo,
-            hi: lo + random.between(0, 30),
-            reference: random.between(-60, 60),
-            weight: 0,
-        };
+        let column = column_of(0, &mut random);
+        let Column { lo, hi, .. } = column;
         let range = random.choose(&[1, 2, 600_000]);
         let s = random.between(-range, range);
         tried[(1 + s.signum()) as usize] += 1;
-        let least = (lo..=column.hi).map(|v| s * v).min().unwrap();
+        let least = (lo..=hi).map(|v| s * v).min().unwrap();
         assert_eq!(piece(&column, s), least, "{column:?} {s}");
         // The least number that attains it.
-        let v = (lo..=column.hi).find(|v| s * v == least);
+        let v = (lo..=hi).find(|v| s * v == least);
         assert_eq!(Some(minimiser(&column, s)), v, "{column:?} {s}");
     }
     assert!(tried.iter().all(|count| *count > 1_000), "{tried:?}");
@@ -359,17 +361,13 @@ fn piece_and_minimiser_of_weight_0_against_all_numbers() {
 fn piece_and_minimiser_against_all_numbers() {
     let mut random = Random::new(6);
     for _ in 0..20_000 {
-        let lo = random.between(-30, 30);
-        let column = Column {
-            lo,
-            hi: lo + random.between(0, 30),
-            reference: random.between(-60, 60),
-            weight: random.between(1, 3),
-        };
+        let weight = random.between(1, 3);
+        let column = column_of(weight, &mut random);
+        let Column { lo, hi, .. } = column;
         let p = 4096 * column.weight;
         let s = random.between(-600_000, 600_000);
         let value = |v: Whole| p * (v - column.reference) * (v - column.reference) + s * v;
-        let least = (lo..=column.hi).map(value).min().unwrap();
+        let least = (lo..=hi).map(value).min().unwrap();
         let piece = piece(&column, s);
         assert!(piece <= least, "{column:?} {s}");
         // A whole number lies within half a unit of the least: P × (1/2)² more, and rounding.

@@ -5,6 +5,7 @@ pub mod Piece
 pub mod Ceiling
 pub mod Bound
 pub mod Duality
+pub mod Scaled
 pub mod Whole
 pub mod Units
 pub mod Rounded

@@ -16,6 +16,7 @@ use Rattle.problem.specs.Model.{Term, Problem, Plan, inputPlace, statePl
 use Rattle.problem.specs.Cost.{square, cost, planCost, Within}
 use Rattle.problem.specs.Rival.{finerTerm, finer, Rival, rivalCost}
 use Rattle.problem.proofs.Total.{total-cong, total-mul}
+use Rattle.problem.proofs.Scaled.{scaled-same}
 
 -- ---- k times the numbers of a list, and of a plan
 
@@ -33,30 +34,11 @@ plan-multiple n m k v = λ i. record { u = λ a j. at-multiple k v (inputPlace n
 
 -- ---- A problem in units of 1/(k D) is the one in units of 1/D in units of 1/k
 
-module _ (k D : ℤ) where
-  apart : (z : ℤ) → k *ℤ D *ℤ z ≡ k *ℤ (D *ℤ z)
-  apart z = ring 3 (λ k D z. k ⊗ D ⊗ z ≐ k ⊗ (D ⊗ z)) tt k D z
+apart : (k D z : ℤ) → k *ℤ D *ℤ z ≡ k *ℤ (D *ℤ z)
+apart k D z = ring 3 (λ k D z. k ⊗ D ⊗ z ≐ k ⊗ (D ⊗ z)) tt k D z
 
-  finerTerm-apart : (t : Term) → finerTerm (k *ℤ D) t ≡ finerTerm k (finerTerm D t)
-  finerTerm-apart t = λ i. record {
-    penalty = t .penalty;
-    low = apart (t .low) i;
-    high = apart (t .high) i;
-    reference = apart (t .reference) i;
-  }
-
-  finer-apart : (q : Problem) → finer (k *ℤ D) q ≡ finer k (finer D q)
-  finer-apart q = λ i. record {
-    n = q .n;
-    m = q .m;
-    horizon = q .horizon;
-    A = q .A;
-    B = q .B;
-    w = λ p. apart (q .w p) i;
-    start = λ p. apart (q .start p) i;
-    inputTerm = λ a j. finerTerm-apart (q .inputTerm a j) i;
-    stateTerm = λ a p. finerTerm-apart (q .stateTerm a p) i;
-  }
+finer-apart : (k D : ℤ) (q : Problem) → finer (k *ℤ D) q ≡ finer k (finer D q)
+finer-apart k D = scaled-same (λ z. k *ℤ D *ℤ z) (λ z. k *ℤ (D *ℤ z)) (apart k D)
 
 -- ---- Residuals grow by k, costs by k²
 

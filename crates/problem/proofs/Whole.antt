@@ -13,35 +13,15 @@ use Rattle.integer.proofs.Parts.{plus, minus, times}
 use Rattle.integer.proofs.Ring.{ring, K, _⊗_, _≐_}
 use Rattle.integer.proofs.Order.{order, le-or-lt}
 use Rattle.integer.proofs.Quotient.{quotient-low, quotient-high, quotient-unique}
-use Rattle.problem.specs.Model.{Term, Problem, Plan, planOf, rounded, sumAt, residual}
+use Rattle.problem.specs.Model.{Problem, Plan, planOf, rounded, sumAt, residual}
 use Rattle.problem.specs.Cost.{Within, Follows, planCost}
-use Rattle.problem.specs.Rival.{finerTerm, finer, Rival, rivalCost}
+use Rattle.problem.specs.Rival.{finer, Rival, rivalCost}
+use Rattle.problem.proofs.Scaled.{scaled-same}
 
 -- ---- The problem in units of 1 is the problem
 
-one-mul : (z : ℤ) → pos 1 *ℤ z ≡ z
-one-mul z = ring 1 (λ z. K 1 ⊗ z ≐ z) tt z
-
-finerTerm-one : (t : Term) → finerTerm (pos 1) t ≡ t
-finerTerm-one t = λ i. record {
-  penalty = t .penalty;
-  low = one-mul (t .low) i;
-  high = one-mul (t .high) i;
-  reference = one-mul (t .reference) i;
-}
-
 finer-one : (q : Problem) → finer (pos 1) q ≡ q
-finer-one q = λ i. record {
-  n = q .n;
-  m = q .m;
-  horizon = q .horizon;
-  A = q .A;
-  B = q .B;
-  w = λ p. one-mul (q .w p) i;
-  start = λ p. one-mul (q .start p) i;
-  inputTerm = λ k j. finerTerm-one (q .inputTerm k j) i;
-  stateTerm = λ k p. finerTerm-one (q .stateTerm k p) i;
-}
+finer-one = scaled-same (λ z. pos 1 *ℤ z) (λ z. z) (λ z. ring 1 (λ z. K 1 ⊗ z ≐ z) tt z)
 
 pub cost-one : (q : Problem) (v : List ℤ) → rivalCost q (pos 1) v ≡ planCost q (planOf (q .n) (q .m) v)
 cost-one q v = ap (λ (p : Problem). planCost p (planOf (q .n) (q .m) v)) (finer-one q)

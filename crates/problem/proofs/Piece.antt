@@ -1,6 +1,7 @@
 -- The slack of a number V, in units of 1/D, over its piece: by how much P (V − D r)² + D s V exceeds D² times the piece. It is from 0 on
 -- for each V from D lo to D hi, any D from 0 on and any P from 0 on.
 use mathlib.Core.Path.{_≡_}
+use mathlib.Core.Logic.{_⊎_, inl, inr}
 use native.Mathlib.Omega.{arith}
 use lib.IntN.{ℤ, pos, _+ℤ_, _-ℤ_, _*ℤ_}
 use lib.Signed.{leZ}
@@ -29,12 +30,21 @@ conjugate-enough p s h = rw (conjugate-is p s h) (up-enough (square s) (pos 4 *�
 
 -- ---- The number of a column of weight 0
 
--- no number within the limits has a lesser s v
-least : (D lo hi s v : ℤ) → D *ℤ lo ≼ v → v ≼ D *ℤ hi → pos 0 ≼ s *ℤ (v -ℤ D *ℤ unweighted lo hi s)
+-- where s is from 0 on D times it is at most every number within the limits, else at least
+outermost : (D lo hi s v : ℤ) → D *ℤ lo ≼ v → v ≼ D *ℤ hi →
+    ((pos 0 ≼ s) × (D *ℤ unweighted lo hi s ≼ v)) ⊎ ((s ≼ pos 0) × (v ≼ D *ℤ unweighted lo hi s))
 unfolding unweighted
-least D lo hi s v l h =
-    by-test (λ a. pos 0 ≼ s *ℤ (v -ℤ D *ℤ a)) (leZ (pos 0) s) (λ e. mul-nonneg {a = s} (omega (arith, order)) (diff-nonneg l))
-    (λ e. mul-nonpos {a = s} (omega (arith, order)) (diff-nonpos h))
+outermost D lo hi s v l h =
+    by-test (λ a. ((pos 0 ≼ s) × (D *ℤ a ≼ v)) ⊎ ((s ≼ pos 0) × (v ≼ D *ℤ a))) (leZ (pos 0) s)
+    (λ e. inl (omega (arith, order))) (λ e. inr (omega (arith, order)))
+
+-- so none of them has a lesser s v
+least : (D lo hi s v : ℤ) → D *ℤ lo ≼ v → v ≼ D *ℤ hi → pos 0 ≼ s *ℤ (v -ℤ D *ℤ unweighted lo hi s)
+least D lo hi s v l h = go (D *ℤ unweighted lo hi s) (outermost D lo hi s v l h)
+  where
+    go : (a : ℤ) → ((pos 0 ≼ s) × (a ≼ v)) ⊎ ((s ≼ pos 0) × (v ≼ a)) → pos 0 ≼ s *ℤ (v -ℤ a)
+    go a (inl k) = mul-nonneg (k .0) (diff-nonneg (k .1))
+    go a (inr k) = mul-nonpos (k .0) (diff-nonpos (k .1))
 
 -- it is one of the limits
 pub one-limit : (P : ℤ → Type 0) (lo hi s : ℤ) → P lo → P hi → P (unweighted lo hi s)
@@ -89,11 +99,11 @@ module _ (D : ℤ) (t : Term) (s v : ℤ) where
     rises : (a : ℤ) → pos 0 ≼ (v -ℤ D *ℤ a) *ℤ tilt t s a → pos 0 ≼ over (cost t a +ℤ s *ℤ a)
     rises a h = le-trans (cost-nonneg (D *ℤ a)) (above a some h)
 
-    from-low : pos 0 ≼ tilt t s (t .low) → pos 0 ≼ over (cost t (t .low) +ℤ s *ℤ t .low)
-    from-low h = rises (t .low) (mul-nonneg (diff-nonneg (within .0)) h)
+    from-low : (a : ℤ) → D *ℤ a ≼ v → pos 0 ≼ tilt t s a → pos 0 ≼ over (cost t a +ℤ s *ℤ a)
+    from-low a l h = rises a (mul-nonneg (diff-nonneg l) h)
 
-    from-high : tilt t s (t .high) ≼ pos 0 → pos 0 ≼ over (cost t (t .high) +ℤ s *ℤ t .high)
-    from-high h = rises (t .high) (mul-nonpos (diff-nonpos (within .1)) h)
+    from-high : (a : ℤ) → v ≼ D *ℤ a → tilt t s a ≼ pos 0 → pos 0 ≼ over (cost t a +ℤ s *ℤ a)
+    from-high a l h = rises a (mul-nonpos (diff-nonpos l) h)
 
     -- and at least D² s a where s V is at least D s a, whatever P is
     linear : (a : ℤ) → pos 0 ≼ s *ℤ (v -ℤ D *ℤ a) → pos 0 ≼ over (s *ℤ a)
@@ -107,7 +117,9 @@ module _ (D : ℤ) (t : Term) (s v : ℤ) where
     unfolding piece
     slack-nonneg =
         let Over : ℤ → Type 0 = λ z. pos 0 ≼ over z in
-        by-test Over (weightless p) (λ _. linear _ (least D (t .low) (t .high) s v (within .0) (within .1)))
-        (λ w. by-test Over (leZ (pos 0) (tilt t s (t .low))) (λ e. from-low (omega (arith, order)))
-        (λ _. by-test Over (leZ (tilt t s (t .high)) (pos 0)) (λ e. from-high (omega (arith, order)))
+        let low = within .0 in
+        let high = within .1 in
+        by-test Over (weightless p) (λ _. linear _ (least D (t .low) (t .high) s v (omega (arith, order)) (omega (arith, order))))
+        (λ w. by-test Over (leZ (pos 0) (tilt t s (t .low))) (λ e. from-low _ (omega (arith, order)) (omega (arith, order)))
+        (λ _. by-test Over (leZ (tilt t s (t .high)) (pos 0)) (λ e. from-high _ (omega (arith, order)) (omega (arith, order)))
         (λ _. anywhere (omega (arith, order)))))

@@ -102,13 +102,14 @@ up-down z d p =
       up-least z d (z ÷ d +ℤ pos 1) p (omega (arith, order, quotient-high z d p)),
     )
 
+-- a multiple of the divisor comes out of it
 pub up-shift : (d x y : ℤ) → pos 1 ≼ d → quotientUp (d *ℤ x +ℤ y) d ≡ x +ℤ quotientUp y d
 unfolding quotientUp
 up-shift d x y p =
     rw (ring 3 (λ d x y. ⊝ (d ⊗ x ⊕ y) ≐ d ⊗ ⊝ x ⊕ ⊝ y) tt d x y, quotient-shift d (negℤ x) (negℤ y) p)
     (ring 2 (λ x c. ⊝ (⊝ x ⊕ c) ≐ x ⊕ ⊝ c) tt x (negℤ y ÷ d))
 
--- and one rounded down, of d − 1 more
+-- d − 1 more, and then rounded down, give the same
 pub up-is : (z d : ℤ) → pos 1 ≼ d → (z +ℤ (d -ℤ pos 1)) ÷ d ≡ quotientUp z d
 up-is z d p =
     let y = z +ℤ (d -ℤ pos 1) in

@@ -1,4 +1,4 @@
--- The theorem of demand 3 is in `Duality`; the files before it hold its parts.
+-- The theorem of demand 3 is in `Duality`; the files before it hold its parts. Behind it stand laws on rivals and on the floor, and figures.
 pub mod Total
 pub mod Lagrangian
 pub mod Piece

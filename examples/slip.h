@@ -37,7 +37,19 @@ static void print_refusal(uint64_t code)
         print_refused(code);
 }
 
-/* Prints the slip of a result, with m first duties. */
+/* Prints the ranges of the m first duties: every rival that costs no more than the plan that the solve
+   left has its own first duties in them. */
+static void print_ranges(const uint8_t *tape, size_t tape_len, size_t plan_len, size_t multipliers_len, size_t m)
+{
+    int64_t ends[FIBERGRAVEL_RANGES_LENGTH];
+    /* Not refused: judging gave a gap. */
+    fibergravel_ranges(tape, tape_len, plan, plan_len, multipliers, multipliers_len, ends);
+    for (size_t j = 0; j < m; j++)
+        printf("range %" PRId64 " %" PRId64 "\n", ends[2 * j + FIBERGRAVEL_RANGE_LOW],
+               ends[2 * j + FIBERGRAVEL_RANGE_HIGH]);
+}
+
+/* Prints the slip of a result, but for the ranges of its m first duties. */
 static void print_answer(const int64_t answer[FIBERGRAVEL_SOLVE_LENGTH], size_t m)
 {
     if (answer[FIBERGRAVEL_KIND] == FIBERGRAVEL_IMPOSSIBLE) {
@@ -64,6 +76,8 @@ static void print_slip(const uint8_t *tape, size_t tape_len)
         if (!code) {
             judge(tape, tape_len, plan_len, multipliers_len, answer);
             print_answer(answer, m);
+            if (answer[FIBERGRAVEL_KIND] == FIBERGRAVEL_PROVED)
+                print_ranges(tape, tape_len, plan_len, multipliers_len, m);
         }
     }
     if (code)

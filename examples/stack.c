@@ -25,7 +25,7 @@ static uint8_t tape[FIBERGRAVEL_MOST_TAPE + 1];
 static int32_t plan[FIBERGRAVEL_MOST_PLAN], multipliers[FIBERGRAVEL_MOST_MULTIPLIERS];
 static int64_t numbers[FIBERGRAVEL_READ_LENGTH], references[FIBERGRAVEL_READ_REFERENCES_LENGTH];
 static int64_t gap[FIBERGRAVEL_JUDGE_PLAN_LENGTH], report[FIBERGRAVEL_JUDGE_REPORT_LENGTH];
-static int64_t answer[FIBERGRAVEL_SOLVE_LENGTH];
+static int64_t ends[FIBERGRAVEL_RANGES_LENGTH], answer[FIBERGRAVEL_SOLVE_LENGTH];
 static uint8_t laboratory[FIBERGRAVEL_LABORATORY_LENGTH], service[FIBERGRAVEL_MOST_SERVICE];
 static int64_t kind[FIBERGRAVEL_RECORD_LENGTH], entry[FIBERGRAVEL_IMPORT_ENTRY_LENGTH];
 static double leftover[FIBERGRAVEL_IMPORT_LEFTOVER_LENGTH];
@@ -90,6 +90,12 @@ static void *judge_fault(void *unused)
     return unused;
 }
 
+static void *ranges(void *unused)
+{
+    fibergravel_ranges(tape, tape_len, plan, plan_len, multipliers, multipliers_len, ends);
+    return unused;
+}
+
 static void *judge_multipliers(void *unused)
 {
     fibergravel_judge_multipliers(tape, tape_len, multipliers, multipliers_len);
@@ -120,6 +126,7 @@ static const struct {
     { "judge_plan", judge_plan },
     { "judge_report", judge_report },
     { "judge_fault", judge_fault },
+    { "ranges", ranges },
     { "judge_multipliers", judge_multipliers },
     { "import_entry", import_entry },
     { "import_model", import_model },

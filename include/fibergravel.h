@@ -1,8 +1,8 @@
 /*
  * Fibergravel: the planning core of a sinter furnace. It reads a furnace tape, judges plans and
- * multipliers that it is shown, says where a plan fails, works out a plan with a proved gap, writes the
- * record of a firing for the laboratory and for the service, and turns a model in floats into commands of
- * a tape. docs/TAPE.md has the tape's format.
+ * multipliers that it is shown, says where a plan fails and how different the first duties of one as cheap
+ * can be, works out a plan with a proved gap, writes the record of a firing for the laboratory and for the
+ * service, and turns a model in floats into commands of a tape. docs/TAPE.md has the tape's format.
  *
  * Link with libplanner.a, which `rt staticlib planner` writes to target/staticlib/. It is compiled for
  * x86-64 Linux, and needs memcpy and memset from outside and nothing else.
@@ -57,9 +57,10 @@ extern "C" {
 /* The version of the calls, one number that compares: 100 times the first part plus the second. With 1.1
    came curves, with 1.2 the imports, with 1.3 weights of 0, with 1.4 the record, with 1.5 the report, with
    1.6 rivals between whole units: for the same plan and multipliers a gap is the same as before or wider,
-   by at most one for each number of the plan, and what follows from gaps has moved with them. */
+   by at most one for each number of the plan, and what follows from gaps has moved with them; with 1.7 the
+   ranges. */
 #define FIBERGRAVEL_VERSION_MAJOR 1
-#define FIBERGRAVEL_VERSION_MINOR 6
+#define FIBERGRAVEL_VERSION_MINOR 7
 #define FIBERGRAVEL_VERSION (100 * FIBERGRAVEL_VERSION_MAJOR + FIBERGRAVEL_VERSION_MINOR)
 
 /* The number of a refusal, and what it carries. */
@@ -166,6 +167,14 @@ enum {
     FIBERGRAVEL_REPORT_FLOOR = 2    /* may be below 0 */
 };
 
+/* Places of fibergravel_ranges's out for u(0,0), and how many numbers it has. Those for u(0,j) are 2 * j
+   further on. */
+enum {
+    FIBERGRAVEL_RANGE_LOW = 0,      /* the lower end */
+    FIBERGRAVEL_RANGE_HIGH = 1,     /* the upper end */
+    FIBERGRAVEL_RANGES_LENGTH = 8
+};
+
 /* Places of fibergravel_solve's out, how many numbers it has, and the kinds. The third is of
    fibergravel_record only. */
 enum {
@@ -246,6 +255,22 @@ uint64_t fibergravel_judge_plan(const uint8_t *tape, size_t tape_len, const int3
 uint64_t fibergravel_judge_report(const uint8_t *tape, size_t tape_len, const int32_t *plan, size_t plan_len,
                                   const int32_t *multipliers, size_t multipliers_len,
                                   int64_t out[FIBERGRAVEL_JUDGE_REPORT_LENGTH]);
+
+/*
+ * Judges a plan with multipliers as fibergravel_judge_plan does, and says how different the first duties of
+ * a plan as cheap can be. out holds a range for each of the m inputs, and 0 beyond them: every rival that
+ * costs no more than the accepted plan has its u(0,j) from the lower to the upper end, both included, and
+ * so has the plan itself. The ends are whole numbers, rounded outward, from lo to hi; where the input's
+ * weight is 0 they are lo and hi.
+ * Use it on a plan that is to be fired, such as fibergravel_solve leaves with 'proved'. A narrow range says
+ * that every plan as cheap sets this heater nearly alike. A wide one does not settle it: there may be a
+ * plan as cheap with quite another duty, or none. Before rounding, a range is at most
+ * 2 * sqrt(gap / (4096 * h)) wide, with h the input's weight from 1 on, and the gap is at most T.
+ * Refusals 1 to 13, as fibergravel_judge_plan has them.
+ */
+uint64_t fibergravel_ranges(const uint8_t *tape, size_t tape_len, const int32_t *plan, size_t plan_len,
+                            const int32_t *multipliers, size_t multipliers_len,
+                            int64_t out[FIBERGRAVEL_RANGES_LENGTH]);
 
 /*
  * Judges multipliers for impossibility. 0 is 'shown': there is no rival, and so no plan follows the tape.

@@ -10,7 +10,8 @@ use std::path::{Path, PathBuf};
 use std::process::ExitCode;
 
 use fibergravel::{
-    judge_multipliers, judge_plan, read, solve, Refusal, Solved, MOST_MULTIPLIERS, MOST_PLAN,
+    judge_multipliers, judge_plan, ranges, read, solve, Refusal, Solved, MOST_MULTIPLIERS,
+    MOST_PLAN,
 };
 
 fn main() -> ExitCode {
@@ -61,8 +62,11 @@ fn answer(tape: &[u8]) -> Result<String, Refusal> {
                 .iter()
                 .map(|duty| format!(" {duty}"));
             let duties: String = duties.collect();
+            let ranges = ranges(tape, plan, multipliers)?;
+            let ranges = ranges.iter().map(|range| format!("range {range}\n"));
+            let ranges: String = ranges.collect();
             Ok(format!(
-                "proved\nrounds {rounds}\ngap {gap}\nfirst{duties}\n"
+                "proved\nrounds {rounds}\ngap {gap}\nfirst{duties}\n{ranges}"
             ))
         }
         Solved::Impossible { rounds } => {

@@ -1,4 +1,4 @@
-//! The nine calls with the numbers that they answer, one to one with C's.
+//! The ten calls with the numbers that they answer, one to one with C's.
 //!
 //! Each answers 0 where it has a result, which is then in what it was lent to write; else the
 //! refusal's number + 256 × what it carries, and then nothing that was lent has changed.
@@ -19,6 +19,15 @@ mod foreign {
             out: *mut i64,
         ) -> u64;
         pub fn fibergravel_judge_report(
+            tape: *const u8,
+            tape_len: usize,
+            plan: *const i32,
+            plan_len: usize,
+            multipliers: *const i32,
+            multipliers_len: usize,
+            out: *mut i64,
+        ) -> u64;
+        pub fn fibergravel_ranges(
             tape: *const u8,
             tape_len: usize,
             plan: *const i32,
@@ -76,6 +85,9 @@ pub const JUDGE_PLAN_LENGTH: usize = 1;
 
 /// How many numbers [`judge_report`] writes.
 pub const JUDGE_REPORT_LENGTH: usize = 5;
+
+/// How many numbers [`ranges`] writes.
+pub const RANGES_LENGTH: usize = 8;
 
 /// How many numbers [`solve`] writes.
 pub const SOLVE_LENGTH: usize = 7;
@@ -142,6 +154,29 @@ pub fn judge_report(
     // places that the call writes. It keeps no pointer.
     unsafe {
         foreign::fibergravel_judge_report(
+            tape.as_ptr(),
+            tape.len(),
+            plan.as_ptr(),
+            plan.len(),
+            multipliers.as_ptr(),
+            multipliers.len(),
+            out.as_mut_ptr(),
+        )
+    }
+}
+
+/// Judges a plan with multipliers as [`judge_plan`] does. `out`: the lower and the upper end of the
+/// range of u(0,j) at 2j and 2j + 1; places beyond m are 0.
+pub fn ranges(
+    tape: &[u8],
+    plan: &[i32],
+    multipliers: &[i32],
+    out: &mut [i64; RANGES_LENGTH],
+) -> u64 {
+    // SAFETY: each pointer and the length after it are one slice's, read only, and `out` has the
+    // places that the call writes. It keeps no pointer.
+    unsafe {
+        foreign::fibergravel_ranges(
             tape.as_ptr(),
             tape.len(),
             plan.as_ptr(),

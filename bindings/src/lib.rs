@@ -1,10 +1,11 @@
 //! The proved sinter furnace planner for Rust programs.
 //!
-//! This crate links `libplanner.a`, which `rt staticlib planner` writes, and wraps its nine
-//! calls. Seven take a tape's bytes; [`import_model`] writes the model's commands for a tape from
-//! floats, and [`import_entry`] rounds a single one. Every call may be lent anything: what the
-//! papers refuse comes back as a [`Refusal`], and then no lent number has changed; of a plan that
-//! fails, [`judge_report`] says where and why. The crate needs `core` only.
+//! This crate links `libplanner.a`, which `rt staticlib planner` writes, and wraps its ten calls.
+//! Eight take a tape's bytes; [`import_model`] writes the model's commands for a tape from floats,
+//! and [`import_entry`] rounds a single one. Every call may be lent anything: what the papers
+//! refuse comes back as a [`Refusal`], and then no lent number has changed. Of a plan that fails,
+//! [`judge_report`] says where and why; of one that is accepted, [`ranges`] says how different the
+//! first duties of a plan as cheap can be. The crate needs `core` only.
 //! `docs/TAPE.md` of the repository has the tape's format, `include/fibergravel.h` what a call
 //! needs of memory, stack and time.
 //!
@@ -52,12 +53,14 @@
 extern crate std;
 
 pub mod calls;
+mod range;
 mod record;
 mod refusal;
 mod report;
 
 use core::array::from_fn;
 
+pub use range::{ranges, Range, Ranges};
 pub use record::{Duties, Kind, Multipliers, Numbers, Outcome, Plan, Record, Seen};
 pub use refusal::Refusal;
 pub use report::{judge_report, Column, Fault, Report};
@@ -570,6 +573,11 @@ fn model_refusal(answer: u64, entries: usize) -> Refusal {
     }
 }
 
+/// The numbers of a tape that another call has accepted.
+fn accepted_tape(tape: &[u8]) -> Tape {
+    read(tape).unwrap_or_else(|_| wrong_library())
+}
+
 /// Nothing for the answer 0, else the refusal, of a call that takes a tape.
 fn accepted(answer: u64) -> Result<(), Refusal> {
     match Refusal::from_answer(answer) {
@@ -622,6 +630,7 @@ mod tests {
         for answer in [16, 17 + 256, 18, 9 + 256, u64::MAX] {
             assert!(catch_unwind(|| accepted(answer)).is_err());
         }
+        assert!(catch_unwind(|| accepted_tape(&[])).is_err());
         for answer in [0, 5, 9, 15, 16 + 256, 17 + 256, u64::MAX] {
             assert!(catch_unwind(|| entry_refusal(answer)).is_err());
         }
@@ -743,6 +752,7 @@ mod tests {
         assert_eq!(read_references(&[]), Err(cut));
         assert_eq!(judge_plan(&[0xff], &[], &[]), Err(misplaced));
         assert_eq!(judge_report(&[0xff], &[], &[1]), Err(misplaced));
+        assert_eq!(ranges(&[0x10], &[7], &[]), Err(cut));
         assert_eq!(judge_multipliers(&[0], &[1]), Err(unknown));
         assert_eq!(solve(&[0x10], &mut [], &mut [7]), Err(cut));
         assert_eq!(record(&[0xff], &mut [], &mut [7]), Err(misplaced));

@@ -43,7 +43,8 @@ impl fmt::Display for Kind {
     }
 }
 
-/// Up to `MOST` numbers, a slice that needs no allocator. Equal where the slices are equal.
+/// Up to `MOST` numbers or [ranges](crate::Range), a slice that needs no allocator. Equal where the
+/// slices are equal.
 #[derive(Clone, Copy)]
 pub struct Numbers<T, const MOST: usize> {
     places: [T; MOST],
@@ -56,6 +57,14 @@ pub type Duties = Numbers<i16, MOST_INPUTS>;
 pub type Plan = Numbers<i32, MOST_PLAN>;
 /// Multipliers step by step, N × n numbers.
 pub type Multipliers = Numbers<i32, MOST_MULTIPLIERS>;
+
+impl<T, const MOST: usize> Numbers<T, MOST> {
+    /// The first `count` of the places.
+    pub(crate) fn front(places: [T; MOST], count: usize) -> Self {
+        let count = count.min(MOST);
+        Numbers { places, count }
+    }
+}
 
 impl<T: Copy + Default, const MOST: usize> Numbers<T, MOST> {
     /// The first `MOST` of the numbers.

@@ -27,6 +27,7 @@ fn sizes_and_lengths() {
         ("READ_REFERENCES_LENGTH", calls::READ_REFERENCES_LENGTH),
         ("JUDGE_PLAN_LENGTH", calls::JUDGE_PLAN_LENGTH),
         ("JUDGE_REPORT_LENGTH", calls::JUDGE_REPORT_LENGTH),
+        ("RANGES_LENGTH", calls::RANGES_LENGTH),
         ("SOLVE_LENGTH", calls::SOLVE_LENGTH),
         ("RECORD_LENGTH", calls::RECORD_LENGTH),
         ("LABORATORY_LENGTH", fibergravel::LABORATORY_LENGTH),
@@ -88,6 +89,18 @@ fn places_and_kinds_of_a_report() {
         let mut out = [7; calls::JUDGE_REPORT_LENGTH];
         assert_eq!(calls::judge_report(tape, &plan, &[y], &mut out), 0);
         assert_eq!(out, expected);
+    }
+}
+
+#[test]
+fn places_of_ranges() {
+    let tape = include_bytes!("../../examples/f.tape");
+    let mut out = [7; calls::RANGES_LENGTH];
+    assert_eq!(calls::ranges(tape, &[4, 102], &[-16], &mut out), 0);
+    let (low, high) = (place("RANGE_LOW"), place("RANGE_HIGH"));
+    assert_eq!((out[low], out[high]), (1, 7));
+    for j in 1..fibergravel::MOST_INPUTS {
+        assert_eq!((out[low + 2 * j], out[high + 2 * j]), (0, 0));
     }
 }
 

@@ -6,15 +6,16 @@ use std::fmt;
 use fibergravel::calls;
 use reference::cases::{read_numbers, reference_numbers};
 use reference::generate::Lent;
+use reference::range::RANGES_LENGTH;
 use reference::record::{Kind, LABORATORY_LENGTH};
 use reference::{
-    judge_multipliers, judge_plan, read, record, solve, Furnace, Record, Refusal, Report, Shown,
-    Solved, Whole,
+    judge_multipliers, judge_plan, ranges, read, record, solve, Furnace, Record, Refusal, Report,
+    Shown, Solved, Whole,
 };
 
 use crate::guard::{marks, Beside, Guarded, GUARD};
 
-/// The seven calls that take a tape.
+/// The eight calls that take a tape.
 #[derive(Clone, Copy, Debug, PartialEq, Eq)]
 pub enum Call {
     /// Reads a tape.
@@ -25,6 +26,8 @@ pub enum Call {
     JudgePlan,
     /// Judges a plan with multipliers, and reports where it fails.
     JudgeReport,
+    /// Judges a plan with multipliers, and gives the ranges of its first duties.
+    Ranges,
     /// Judges multipliers for impossibility.
     JudgeMultipliers,
     /// Solves.
@@ -34,12 +37,13 @@ pub enum Call {
 }
 
 impl Call {
-    /// The seven.
-    pub const ALL: [Call; 7] = [
+    /// The eight.
+    pub const ALL: [Call; 8] = [
         Call::Read,
         Call::ReadReferences,
         Call::JudgePlan,
         Call::JudgeReport,
+        Call::Ranges,
         Call::JudgeMultipliers,
         Call::Solve,
         Call::Record,
@@ -52,6 +56,7 @@ impl Call {
             Call::ReadReferences => calls::READ_REFERENCES_LENGTH,
             Call::JudgePlan => calls::JUDGE_PLAN_LENGTH,
             Call::JudgeReport => calls::JUDGE_REPORT_LENGTH,
+            Call::Ranges => calls::RANGES_LENGTH,
             Call::JudgeMultipliers => 0,
             Call::Solve => calls::SOLVE_LENGTH,
             Call::Record => calls::RECORD_LENGTH,
@@ -80,7 +85,7 @@ pub struct Lending<'a> {
     /// dear, and need not be run again.
     pub record: Option<&'a Record>,
     /// What [`Call::JudgePlan`] answers to the same slices, where it is known. The second program
-    /// need not judge them again for [`Call::JudgeReport`].
+    /// need not judge them again for [`Call::JudgeReport`], nor for [`Call::Ranges`] what is refused.
     pub judged: Option<Result<Whole, Refusal>>,
 }
 
@@ -219,6 +224,9 @@ fn made(
         Call::JudgeReport => with_out(beside, |out| {
             calls::judge_report(tape, plan.lent(), multipliers.lent(), out)
         }),
+        Call::Ranges => with_out(beside, |out| {
+            calls::ranges(tape, plan.lent(), multipliers.lent(), out)
+        }),
         Call::JudgeMultipliers => with_out(beside, |_: &mut [i64; 0]| {
             calls::judge_multipliers(tape, multipliers.lent())
         }),
@@ -252,6 +260,8 @@ pub enum Answer {
     Gap(Result<Whole, Refusal>),
     /// Of [`Call::JudgeReport`].
     Reported(Result<Report, Refusal>),
+    /// Of [`Call::Ranges`]: the ends.
+    Ranged(Result<[Whole; RANGES_LENGTH], Refusal>),
     /// Of [`Call::JudgeMultipliers`].
     Shown(Result<Shown, Refusal>),
     /// Of [`Call::Solve`].
@@ -274,6 +284,10 @@ pub fn by_reference(call: Call, lending: &Lending) -> (Answer, Left) {
             let judged = || judge_plan(tape, &plan, &multipliers);
             Answer::Reported(Report::of_answer(lending.judged.unwrap_or_else(judged)))
         }
+        Call::Ranges => Answer::Ranged(match lending.judged {
+            Some(Err(refusal)) => Err(refusal),
+            _ => ranges(tape, &plan, &multipliers),
+        }),
         Call::JudgeMultipliers => Answer::Shown(judge_multipliers(tape, &multipliers)),
         Call::Solve => Answer::Solved(solve(tape, &mut plan, &mut multipliers)),
         Call::Record => Answer::Recorded(match lending.record {
@@ -315,6 +329,7 @@ fn numbers(answer: &Answer) -> Result<Vec<i64>, Refusal> {
         }
         Answer::Gap(gap) => Ok(vec![narrow((*gap)?)]),
         Answer::Reported(report) => Ok((*report)?.numbers().map(narrow).to_vec()),
+        Answer::Ranged(ends) => Ok((*ends)?.map(narrow).to_vec()),
         Answer::Shown(shown) => {
             let Shown = (*shown)?;
             Ok(Vec::new())

@@ -42,6 +42,9 @@ impl Comparison {
         for lent in &case.solved {
             let (solved, left) = self.solve(tape, lent);
             self.counts.add_solved(solved, &furnace);
+            // The ranges of what a solve leaves are those of its slip.
+            self.counts
+                .add_slip_ranges(&furnace, &left.multipliers, solved);
             open |= matches!(solved, Err(Refusal::Open { .. }));
             // The last slices lent have the right lengths.
             record = record_of(&furnace, solved, &left);
@@ -78,7 +81,8 @@ impl Comparison {
         }
     }
 
-    /// Judges a plan with its multipliers, without a report and with one, and the multipliers alone.
+    /// Judges a plan with its multipliers, without a report, with one and with ranges, and the
+    /// multipliers alone.
     fn judge(&mut self, tape: &[u8], furnace: &Result<Furnace, Refusal>, lent: &Lent) {
         let mut lending = Lending::of(lent, tape);
         if let (Answer::Gap(gap), _) = self.call(Call::JudgePlan, &lending) {
@@ -88,16 +92,21 @@ impl Comparison {
         if let (Answer::Reported(report), _) = self.call(Call::JudgeReport, &lending) {
             self.counts.add_report(furnace, &lent.plan, report);
         }
+        self.call(Call::Ranges, &lending);
+        if let Some(judged) = lending.judged {
+            self.counts.add_ranges(furnace, &lent.multipliers, judged);
+        }
         if let (Answer::Shown(shown), _) = self.call(Call::JudgeMultipliers, &lending) {
             self.counts.add_shown(shown);
         }
     }
 
-    /// Solves, and judges what the solve left, whatever its answer.
+    /// Solves, and judges what the solve left, whatever its answer, also with ranges.
     fn solve(&mut self, tape: &[u8], lent: &Lent) -> (Result<Solved, Refusal>, Left) {
         let (answer, left) = self.call(Call::Solve, &Lending::of(lent, tape));
         let lending = Lending::new(JUDGED, tape, &left.plan, &left.multipliers);
         self.also(Call::JudgePlan, &lending);
+        self.also(Call::Ranges, &lending);
         self.also(Call::JudgeMultipliers, &lending);
         match answer {
             Answer::Solved(solved) => (solved, left),

@@ -7,7 +7,7 @@ use std::process::{Command, ExitCode, Stdio};
 use crate::comparison::Comparison;
 use crate::guard::Beside;
 use crate::part::Part;
-use crate::{edges, faults, given, imports, records, slip, squares, weights};
+use crate::{edges, faults, given, imports, ranges, records, slip, squares, weights};
 
 /// Says where a long run is once in so many tapes.
 const SAY_ONE_IN: u64 = 10_000;
@@ -48,9 +48,9 @@ fn text(error: std::io::Error) -> String {
     error.to_string()
 }
 
-/// Compares the parts that have no seed, and the cases, tapes with drawn places, entries and models
-/// of `count` seeds from `first_seed` on, and prints what was tried. Fails where something differs
-/// or was never met.
+/// Compares the parts that have no seed, and the cases, tapes with drawn places, ranges of drawn
+/// duties, entries and models of `count` seeds from `first_seed` on, and prints what was tried. Fails
+/// where something differs or was never met.
 pub fn compare_here(count: u64, first_seed: u64) -> Result<(), String> {
     let mut comparison = Comparison::new(Beside::Guards, Some(slip::program()?));
     for edge in Part::EDGES {
@@ -77,7 +77,7 @@ pub fn compare_here(count: u64, first_seed: u64) -> Result<(), String> {
     );
     println!("{}", comparison.summary());
     comparison.verdict()?;
-    comparison.counts.require_all()
+    comparison.require_all()
 }
 
 /// Compares a part alone.
@@ -108,11 +108,13 @@ pub fn add(comparison: &mut Comparison, part: Part) {
         Part::Squares => squares::add_squares(comparison),
         Part::Faults => faults::add_faults(comparison),
         Part::Weights => weights::add_weights(comparison),
+        Part::Ranges => ranges::add_ranges(comparison),
         Part::Records => records::add_records(comparison),
         Part::Entries => imports::add_entries(comparison),
         Part::Models => imports::add_models(comparison),
         Part::Case(seed) => comparison.add_case(seed),
         Part::GivenOf(seed) => comparison.add_given_of(seed),
+        Part::RangesOf(seed) => comparison.add_ranges_of(seed),
         Part::EntriesOf(seed) => comparison.add_entries_of(seed),
         Part::ModelsOf(seed) => comparison.add_models_of(seed),
     }

@@ -9,8 +9,7 @@ use reference::slip as slip_text;
 use crate::calls::{by_planner, by_reference, Answer, Call, Left, Lending};
 use crate::guard::Beside;
 use crate::part::Part;
-use crate::records::{self, AT_THE_EDGES};
-use crate::{slip, tune, wrapper};
+use crate::{ranges, records, slip, tune, wrapper};
 
 /// A comparison ends soon after so many differences, and prints no more of them.
 const MOST_DIFFERENCES: u64 = 5;
@@ -64,6 +63,10 @@ pub const EVERY_WEIGHT: &str = "every weight of every column";
 pub const ALL_WEIGHTS_0: &str = "all weights 0, other numbers at limits";
 /// Of [`ALSO`]: all weights 0 with lo = hi in every column.
 pub const ONE_NUMBER: &str = "all weights 0, lo = hi";
+/// Of [`ALSO`]: first duties with chosen columns, slopes and gaps.
+pub const EDGE_DUTIES: &str = "first duties at the edges of their ranges";
+/// Of [`ALSO`]: first duties with drawn columns, slopes and gaps.
+pub const DRAWN_DUTIES: &str = "drawn first duties";
 /// Of [`ALSO`]: records of all sizes, and of all lengths about the right ones.
 pub const RECORD_SIZES: &str = "records of all sizes";
 /// Of [`ALSO`]: records with numbers that look absent.
@@ -78,7 +81,7 @@ pub const FAULTY_ENTRIES: &str = "faulty entries of models";
 pub const IMPORTED: &str = "imported models read from a tape";
 
 /// The names under [`ALSO`].
-const ALSO_NAMES: [&str; 25] = [
+const ALSO_NAMES: [&str; 27] = [
     CUT,
     JUDGED,
     TAPE_LENGTHS,
@@ -98,6 +101,8 @@ const ALSO_NAMES: [&str; 25] = [
     EVERY_WEIGHT,
     ALL_WEIGHTS_0,
     ONE_NUMBER,
+    EDGE_DUTIES,
+    DRAWN_DUTIES,
     RECORD_SIZES,
     RECORD_NUMBERS,
     ENTRIES,
@@ -105,6 +110,10 @@ const ALSO_NAMES: [&str; 25] = [
     FAULTY_ENTRIES,
     IMPORTED,
 ];
+
+/// The heading and the name of what no accepted plan has, so that no call has it: with a gap of 0 the
+/// centre of a number is that number, and none between two.
+pub const NEVER: (&str, &str) = ("range, rare shape", "third, gap 0, two numbers");
 
 /// What has been compared so far.
 pub struct Comparison {
@@ -138,7 +147,9 @@ impl Comparison {
         counts.expect_given();
         counts.expect_imports();
         counts.expect_records();
-        counts.expect(AT_THE_EDGES, records::names());
+        counts.expect(records::AT_THE_EDGES, records::names());
+        counts.expect_ranges();
+        counts.expect(ranges::AT_THE_EDGES, ranges::names());
         counts.expect(
             "slip",
             answers(&["proved", "impossible", "open"], &refusals),
@@ -244,6 +255,14 @@ impl Comparison {
             return Err("the planner and the second program differ".to_string());
         }
         Ok(())
+    }
+
+    /// Fails where a count is 0, but for [`NEVER`].
+    pub fn require_all(&self) -> Result<(), String> {
+        let mut counts = self.counts.clone();
+        let (heading, name) = NEVER;
+        counts.add(heading, name);
+        counts.require_all()
     }
 }
 

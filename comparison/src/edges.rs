@@ -144,7 +144,12 @@ pub fn add_slices(comparison: &mut Comparison) {
         let (plan, multipliers) = (furnace.plan_length(), furnace.multipliers_length());
         for length in 0..=MOST_STEPS * (MOST_STATES + MOST_INPUTS) + 1 {
             let lent = lent::any_values(length, multipliers, &mut random);
-            for call in [Call::JudgePlan, Call::JudgeReport, Call::Solve] {
+            for call in [
+                Call::JudgePlan,
+                Call::JudgeReport,
+                Call::Ranges,
+                Call::Solve,
+            ] {
                 let lending = Lending::new(PLAN_LENGTHS, &tape, &lent.plan, &lent.multipliers);
                 comparison.also(call, &lending);
             }
@@ -154,6 +159,7 @@ pub fn add_slices(comparison: &mut Comparison) {
             for call in [
                 Call::JudgePlan,
                 Call::JudgeReport,
+                Call::Ranges,
                 Call::JudgeMultipliers,
                 Call::Solve,
             ] {

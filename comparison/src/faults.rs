@@ -45,7 +45,8 @@ struct Judged {
     lent: Lent,
 }
 
-/// Judges all plans of these kinds with a report, and those with one fault without a report too.
+/// Judges all plans of these kinds with a report, and those that have not several faults also without
+/// one and with ranges.
 pub fn add_faults(comparison: &mut Comparison) {
     let mut random = Random::new(SEED);
     for sizes in SIZES {
@@ -66,6 +67,7 @@ fn add_judged(comparison: &mut Comparison, Judged { origin, tape, lent }: &Judge
     comparison.also(Call::JudgeReport, &lending);
     if *origin != SEVERAL_FAULTS {
         comparison.also(Call::JudgePlan, &lending);
+        comparison.also(Call::Ranges, &lending);
     }
 }
 

@@ -1,6 +1,6 @@
 //! The command `memory`.
 
-use reference::count::{CALLS, GIVEN, IMPORTS, RECORDS, REPORTS};
+use reference::count::{CALLS, GIVEN, IMPORTS, RANGES, RECORDS, REPORTS};
 use reference::generate::{kind, Kind};
 
 use crate::compare;
@@ -8,10 +8,10 @@ use crate::comparison::{Comparison, REFERENCES};
 use crate::guard::Beside;
 use crate::part::Part;
 
-/// Compares the cases, tapes with drawn places, entries and models of `count` seeds with nothing
-/// beside what is lent. To be run under valgrind, which is slow: late tapes, edges and slips are
-/// left out. Fails where something differs, or where a call's answer or one of its refusals was
-/// never met.
+/// Compares the cases, tapes with drawn places, ranges of drawn duties, entries and models of
+/// `count` seeds with nothing beside what is lent. To be run under valgrind, which is slow: late
+/// tapes, edges and slips are left out. Fails where something differs, or where a call's answer or
+/// one of its refusals was never met.
 pub fn memory(count: u64, first_seed: u64) -> Result<(), String> {
     let mut comparison = Comparison::new(Beside::Nothing, None);
     let seeds = (0..count).map(|place| first_seed.wrapping_add(place));
@@ -23,6 +23,7 @@ pub fn memory(count: u64, first_seed: u64) -> Result<(), String> {
     let of_calls = |heading: &str| {
         CALLS.contains(&heading)
             || IMPORTS.contains(&heading)
+            || RANGES.contains(&heading)
             || [REFERENCES, GIVEN, RECORDS, REPORTS].contains(&heading)
     };
     print!("{}", comparison.counts.text_of(of_calls));

@@ -24,6 +24,8 @@ pub enum Part {
     Faults,
     /// Weights of 0 at the edges.
     Weights,
+    /// First duties at the edges of their ranges.
+    Ranges,
     /// Records of all sizes, and with numbers that look absent.
     Records,
     /// Entries beside numbers, halves and powers of two.
@@ -34,6 +36,8 @@ pub enum Part {
     Case(u64),
     /// The tape of a seed that gives a drawn set of places.
     GivenOf(u64),
+    /// The ranges of a seed's duties.
+    RangesOf(u64),
     /// The entries of a seed.
     EntriesOf(u64),
     /// The models of a seed.
@@ -42,7 +46,7 @@ pub enum Part {
 
 impl Part {
     /// All that have no seed.
-    pub const EDGES: [Part; 12] = [
+    pub const EDGES: [Part; 13] = [
         Part::Slips,
         Part::Tapes,
         Part::Places,
@@ -52,16 +56,18 @@ impl Part {
         Part::Squares,
         Part::Faults,
         Part::Weights,
+        Part::Ranges,
         Part::Records,
         Part::Entries,
         Part::Models,
     ];
 
     /// The parts of a seed.
-    pub fn of_seed(seed: u64) -> [Part; 4] {
+    pub fn of_seed(seed: u64) -> [Part; 5] {
         [
             Part::Case(seed),
             Part::GivenOf(seed),
+            Part::RangesOf(seed),
             Part::EntriesOf(seed),
             Part::ModelsOf(seed),
         ]
@@ -89,11 +95,13 @@ impl fmt::Display for Part {
             Part::Squares => f.write_str("squares"),
             Part::Faults => f.write_str("faults"),
             Part::Weights => f.write_str("weights"),
+            Part::Ranges => f.write_str("ranges"),
             Part::Records => f.write_str("records"),
             Part::Entries => f.write_str("entries"),
             Part::Models => f.write_str("models"),
             Part::Case(seed) => write!(f, "{seed}"),
             Part::GivenOf(seed) => write!(f, "given-{seed}"),
+            Part::RangesOf(seed) => write!(f, "ranges-{seed}"),
             Part::EntriesOf(seed) => write!(f, "entries-{seed}"),
             Part::ModelsOf(seed) => write!(f, "models-{seed}"),
         }

@@ -35,7 +35,7 @@ pub fn add_squares(comparison: &mut Comparison) {
 }
 
 /// Judges a plan of two steps with a drawn slope of x(1), for which the third piece applies. T is 0,
-/// so that the report has the floor.
+/// so that the report has the floor, and ranges are refused.
 fn add_slope(comparison: &mut Comparison, weight: Whole, random: &mut Random) {
     let y = multipliers(weight, random);
     let furnace = furnace(weight, y[0].signum(), random);
@@ -45,6 +45,7 @@ fn add_slope(comparison: &mut Comparison, weight: Whole, random: &mut Random) {
     let multipliers = y.map(|number| number as i32);
     let lending = Lending::new(origin, &tape, &lent.plan, &multipliers);
     comparison.also(Call::JudgeReport, &lending);
+    comparison.also(Call::Ranges, &lending);
 }
 
 /// y(0), a multiple of 4h, so that its part of the slope is one of 4P, and y(1), which is added to

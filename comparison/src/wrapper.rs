@@ -7,16 +7,35 @@ use reference::cases::{read_numbers, reference_numbers};
 use reference::generate::Model;
 use reference::marks::Sizes;
 use reference::record::{Kind, Outcome, Record};
-use reference::{Entry, Fault, Refusal, Report, Solved};
+use reference::{Entry, Fault, Refusal, Report, Solved, Whole};
 
 use crate::calls::{narrow, narrow_all, Answer, Call, Left, Lending};
 
 /// What the wrapper says, as a text, where it differs from the second program.
 pub fn difference(call: Call, lending: &Lending, answer: &Answer, left: &Left) -> Option<String> {
-    let tape = lending.tape;
     let mut plan = lending.plan.to_vec();
     let mut multipliers = lending.multipliers.to_vec();
     let other_answer = match (call, answer) {
+        (Call::Solve, Answer::Solved(expected)) => {
+            let found = planner::solve(lending.tape, &mut plan, &mut multipliers);
+            other(found, expected, |found, end| *found == as_planner(*end))
+        }
+        (Call::Record, Answer::Recorded(expected)) => record_difference(lending, expected, left),
+        _ => answer_difference(call, lending, answer),
+    };
+    if other_answer.is_none() && plan == left.plan && multipliers == left.multipliers {
+        return None;
+    }
+    let answer = other_answer.unwrap_or("the same answer".to_string());
+    Some(format!(
+        "{answer}, plan {plan:?}, multipliers {multipliers:?}"
+    ))
+}
+
+/// The same of a call that is lent nothing to write but `out`.
+fn answer_difference(call: Call, lending: &Lending, answer: &Answer) -> Option<String> {
+    let (tape, plan, multipliers) = (lending.tape, lending.plan, lending.multipliers);
+    match (call, answer) {
         (Call::Read, Answer::Read(expected)) => {
             other(planner::read(tape), expected, |found, read| {
                 numbers(found) == narrow_all(read_numbers(read))
@@ -28,28 +47,22 @@ pub fn difference(call: Call, lending: &Lending, answer: &Answer, left: &Left) -
             })
         }
         (Call::JudgePlan, Answer::Gap(expected)) => {
-            let found = planner::judge_plan(tape, &plan, &multipliers);
+            let found = planner::judge_plan(tape, plan, multipliers);
             other(found, expected, |found, gap| *found == narrow(*gap))
         }
         (Call::JudgeReport, Answer::Reported(expected)) => report_difference(lending, expected),
+        (Call::Ranges, Answer::Ranged(expected)) => {
+            let found = planner::ranges(tape, plan, multipliers);
+            other(found, expected, |found, ends| {
+                same_ranges(found, ends, tape)
+            })
+        }
         (Call::JudgeMultipliers, Answer::Shown(expected)) => {
-            let found = planner::judge_multipliers(tape, &multipliers);
+            let found = planner::judge_multipliers(tape, multipliers);
             other(found, expected, |planner::Shown, reference::Shown| true)
         }
-        (Call::Solve, Answer::Solved(expected)) => {
-            let found = planner::solve(tape, &mut plan, &mut multipliers);
-            other(found, expected, |found, end| *found == as_planner(*end))
-        }
-        (Call::Record, Answer::Recorded(expected)) => record_difference(lending, expected, left),
         _ => Some("an answer of another call".to_string()),
-    };
-    if other_answer.is_none() && plan == left.plan && multipliers == left.multipliers {
-        return None;
     }
-    let answer = other_answer.unwrap_or("the same answer".to_string());
-    Some(format!(
-        "{answer}, plan {plan:?}, multipliers {multipliers:?}"
-    ))
 }
 
 /// What was found, as a text, where it is not what was expected.
@@ -120,6 +133,17 @@ fn fault(fault: Fault, states: usize) -> planner::Fault {
         found: narrow(fault.found),
         due: narrow(fault.due),
     }
+}
+
+/// Are there as many ranges as the tape has inputs, with these ends and the words of a slip?
+fn same_ranges(found: &[planner::Range], ends: &[Whole], tape: &[u8]) -> bool {
+    // A tape that is accepted begins with command 10, n and m.
+    let inputs = usize::from(tape[2]);
+    let same = |(range, ends): (&planner::Range, &[Whole])| {
+        [range.low, range.high].map(Whole::from) == *ends
+            && range.to_string() == format!("{} {}", ends[0], ends[1])
+    };
+    found.len() == inputs && found.iter().zip(ends.chunks(2)).all(same)
 }
 
 /// What the wrapper says of an entry, as a text, where it differs from the second program.

@@ -9,15 +9,19 @@
 //! bit b of byte j is 1, bit 0 being the lowest. `count` has 48 bytes: three 64-bit words of what is
 //! asked for, each low byte first, and three of what is given.
 //!
-//! A refused `judge` says what the refusal reports: `refused 10 STEP COLUMN FOUND DUE`, `refused 11
-//! STEP COLUMN FOUND DUE`, `refused 13 COST FLOOR`. All others say what they carry, or `-`.
+//! A refused `judge` or `ranges` says what the refusal reports: `refused 10 STEP COLUMN FOUND DUE`,
+//! `refused 11 STEP COLUMN FOUND DUE`, `refused 13 COST FLOOR`. All others say what they carry, or
+//! `-`.
 //!
-//! `quotient` rounds down, and `square`, the quotient of the slope's square, up.
+//! `quotient` rounds down, `quotient_up` and `square`, the quotient of the slope's square, up. `range`
+//! gives two numbers for each part, and `root` the least number from 0 whose square is at or above the
+//! part's, which is below 2^64.
 //!
 //! ```text
 //! read HEX
 //! steps HEX
 //! judge HEX / plan numbers / multipliers
+//! ranges HEX / plan numbers / multipliers
 //! show HEX / multipliers
 //! solve HEX / plan numbers / multipliers
 //! entry HEX
@@ -25,9 +29,12 @@
 //! missing HEX / n m N
 //! count HEX
 //! quotient dividend divisor / ..
+//! quotient_up dividend divisor / ..
 //! limit number lo hi / ..
 //! size number / ..
 //! square slope divisor / ..
+//! range weight lo hi reference slope gap / ..
+//! root number / ..
 //! operands HEX
 //! ```
 
@@ -38,8 +45,11 @@ use crate::calls::{judge_multipliers, judge_plan, read, solve, Shown, Solved};
 use crate::import::{import_entry, import_model, Entry};
 use crate::marks::{count_missing, Marks, Sizes};
 use crate::model::{ceil_div, floor_div, Column, Furnace, Whole};
+use crate::range::{range, ranges, Range};
 use crate::refusal::{Fault, Refusal};
-use crate::tape::{signed, unsigned, MOST_COLUMNS, MOST_INPUTS, MOST_STATES, MOST_STEPS};
+use crate::tape::{
+    signed, unsigned, MOST_COLUMNS, MOST_INPUTS, MOST_STATES, MOST_STEPS, MOST_WEIGHT, NUMBER_RANGE,
+};
 
 /// The expected output for a text of cases, or what is wrong with the text.
 pub fn expect(text: &str) -> Result<String, String> {
@@ -60,50 +70,54 @@ fn answer(line: &str) -> Result<String, String> {
     let (call, rest) = line.split_once(char::is_whitespace).unwrap_or((line, ""));
     let parts: Vec<&str> = rest.split('/').collect();
     match (call, parts.as_slice()) {
-        ("read", [tape]) => Ok(match read(&bytes(tape)?) {
-            Ok(furnace) => listed("read", read_numbers(&furnace)),
-            Err(refusal) => refused(refusal),
-        }),
-        ("steps", [tape]) => Ok(match read(&bytes(tape)?) {
-            Ok(furnace) => listed("steps", reference_numbers(&furnace)),
-            Err(refusal) => refused(refusal),
-        }),
+        ("read", [tape]) => {
+            let line = |furnace| listed("read", read_numbers(&furnace));
+            Ok(read(&bytes(tape)?).map_or_else(refused, line))
+        }
+        ("steps", [tape]) => {
+            let line = |furnace| listed("steps", reference_numbers(&furnace));
+            Ok(read(&bytes(tape)?).map_or_else(refused, line))
+        }
         ("judge", [tape, plan, multipliers]) => {
             let answer = judge_plan(&bytes(tape)?, &numbers(plan)?, &numbers(multipliers)?);
-            Ok(match answer {
-                Ok(gap) => format!("gap {gap}\n"),
-                Err(refusal) => refused(refusal),
-            })
+            Ok(answer.map_or_else(refused, |gap| listed("gap", [gap])))
+        }
+        ("ranges", [tape, plan, multipliers]) => {
+            let answer = ranges(&bytes(tape)?, &numbers(plan)?, &numbers(multipliers)?);
+            Ok(answer.map_or_else(refused, |ends| listed("ranges", ends)))
         }
         ("show", [tape, multipliers]) => {
             let answer = judge_multipliers(&bytes(tape)?, &numbers(multipliers)?);
-            Ok(match answer {
-                Ok(Shown) => "shown\n".to_string(),
-                Err(refusal) => refused(refusal),
-            })
+            Ok(answer.map_or_else(refused, |Shown| "shown\n".to_string()))
         }
         ("solve", [tape, plan, multipliers]) => {
-            let mut plan = numbers(plan)?;
-            let mut multipliers = numbers(multipliers)?;
-            let answer = match solve(&bytes(tape)?, &mut plan, &mut multipliers) {
-                Ok(Solved::Proved { rounds, gap, first }) => {
-                    listed(&format!("proved {rounds} {gap}"), first)
-                }
-                Ok(Solved::Impossible { rounds }) => format!("impossible {rounds}\n"),
-                Err(refusal) => refused(refusal),
-            };
-            Ok(answer + &listed("plan", plan) + &listed("multipliers", multipliers))
+            let tape = bytes(tape)?;
+            Ok(solved(&tape, numbers(plan)?, numbers(multipliers)?))
         }
         ("entry", [entry]) => imported_entry(entry),
         ("model", [entries, lengths]) => imported_model(entries, lengths),
         ("missing", [marks, sizes]) => missing_places(marks, sizes),
         ("count", [words]) => missing_bits(words),
-        (
-            "read" | "steps" | "judge" | "show" | "solve" | "entry" | "model" | "missing" | "count",
-            _,
-        ) => Err(format!("`{call}` has another number of parts")),
+        _ if CALLS.contains(&call) => Err(format!("`{call}` has another number of parts")),
         _ => whole_numbers(call, &parts),
     }
+}
+
+/// The words of all cases but those of whole numbers.
+const CALLS: [&str; 10] = [
+    "read", "steps", "judge", "ranges", "show", "solve", "entry", "model", "missing", "count",
+];
+
+/// The output lines of a solve: the answer, and what the slices hold then.
+fn solved(tape: &[u8], mut plan: Vec<i32>, mut multipliers: Vec<i32>) -> String {
+    let answer = match solve(tape, &mut plan, &mut multipliers) {
+        Ok(Solved::Proved { rounds, gap, first }) => {
+            listed(&format!("proved {rounds} {gap}"), first)
+        }
+        Ok(Solved::Impossible { rounds }) => format!("impossible {rounds}\n"),
+        Err(refusal) => refused(refusal),
+    };
+    answer + &listed("plan", plan) + &listed("multipliers", multipliers)
 }
 
 /// The byte that every place of a lent `out` holds before a model is imported.
@@ -205,11 +219,16 @@ fn whole_numbers(call: &str, parts: &[&str]) -> Result<String, String> {
         ("quotient", _) => each(parts, |[dividend, divisor]| {
             Ok(floor_div(dividend, from_1(divisor)?))
         }),
+        ("quotient_up", _) => each(parts, |[dividend, divisor]| {
+            Ok(ceil_div(dividend, from_1(divisor)?))
+        }),
         ("limit", _) => each(parts, |[number, lo, hi]| limited(number, lo, hi)),
         ("size", _) => each(parts, |[number]| Ok(number.abs())),
         ("square", _) => each(parts, |[slope, divisor]| {
             Ok(ceil_div(slope * slope, from_1(divisor)?))
         }),
+        ("range", _) => ends_of_each(parts),
+        ("root", _) => parts.iter().map(|part| root_of(part)).collect(),
         ("operands", [part]) => operands(&bytes(part)?),
         ("operands", _) => Err("`operands` has another number of parts".to_string()),
         _ => Err(format!("no call is named `{call}`")),
@@ -222,13 +241,15 @@ fn each<const COUNT: usize>(
     parts: &[&str],
     result: impl Fn([Whole; COUNT]) -> Result<Whole, String>,
 ) -> Result<Vec<Whole>, String> {
-    let one = |part: &&str| {
-        let numbers: Vec<i64> = numbers(part)?;
-        let numbers: Vec<Whole> = numbers.into_iter().map(Whole::from).collect();
-        let numbers = numbers.try_into();
-        result(numbers.map_err(|_| format!("`{part}` has not {COUNT} numbers"))?)
-    };
-    parts.iter().map(one).collect()
+    parts.iter().map(|part| result(of_part(part)?)).collect()
+}
+
+/// The numbers of a part, which has `COUNT` of them.
+fn of_part<const COUNT: usize>(part: &str) -> Result<[Whole; COUNT], String> {
+    let numbers: Vec<i64> = numbers(part)?;
+    let numbers: Vec<Whole> = numbers.into_iter().map(Whole::from).collect();
+    let numbers = numbers.try_into();
+    numbers.map_err(|_| format!("`{part}` has not {COUNT} numbers"))
 }
 
 /// A divisor, which is from 1.
@@ -245,6 +266,66 @@ fn limited(number: Whole, lo: Whole, hi: Whole) -> Result<Whole, String> {
         return Err(format!("{lo} is above {hi}"));
     }
     Ok(number.clamp(lo, hi))
+}
+
+/// The two ends of the range that each part asks for.
+fn ends_of_each(parts: &[&str]) -> Result<Vec<Whole>, String> {
+    let mut ends = Vec::new();
+    for part in parts {
+        let [weight, lo, hi, reference, slope, gap] = of_part(part)?;
+        let column = legal_column(weight, lo, hi, reference)?;
+        if gap < 0 {
+            return Err(format!("{gap} is no gap from 0"));
+        }
+        let Range { low, high } = range(&column, slope, gap);
+        ends.extend([low, high]);
+    }
+    Ok(ends)
+}
+
+/// A column with numbers that a command 30 can have.
+fn legal_column(weight: Whole, lo: Whole, hi: Whole, reference: Whole) -> Result<Column, String> {
+    if !(0..=MOST_WEIGHT).contains(&weight) {
+        return Err(format!("{weight} is no weight"));
+    }
+    let is_beyond = |number: &Whole| number.abs() > NUMBER_RANGE;
+    if let Some(number) = [lo, hi, reference].into_iter().find(is_beyond) {
+        return Err(format!("{number} is beyond {NUMBER_RANGE} in size"));
+    }
+    if lo > hi {
+        return Err(format!("{lo} is above {hi}"));
+    }
+    Ok(Column {
+        lo,
+        hi,
+        reference,
+        weight,
+    })
+}
+
+/// The root of a part's only number, which is from 0 and has 64 bits.
+fn root_of(part: &str) -> Result<Whole, String> {
+    let numbers: Vec<u64> = numbers(part)?;
+    let [number] = numbers[..] else {
+        return Err(format!("`{part}` has not 1 number"));
+    };
+    Ok(root(Whole::from(number)))
+}
+
+/// The least whole number from 0 whose square is at or above a number of 64 bits. No call needs it:
+/// [`range`] tries numbers instead.
+fn root(number: Whole) -> Whole {
+    // 2^64 is above all of them. From 0 to `short`, where that is not below 0, no square is enough.
+    let (mut short, mut enough): (Whole, Whole) = (-1, 1 << 32);
+    while enough - short > 1 {
+        let middle = (short + enough) / 2;
+        if middle * middle >= number {
+            enough = middle;
+        } else {
+            short = middle;
+        }
+    }
+    enough
 }
 
 /// Four bytes as every operand that starts at the first of them, and the last two as a signed

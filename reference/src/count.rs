@@ -3,12 +3,14 @@
 mod given;
 mod import;
 mod quotient;
+mod range;
 mod record;
 mod report;
 
 pub use given::GIVEN;
 pub use import::IMPORTS;
 pub use quotient::QUOTIENTS;
+pub use range::RANGES;
 pub use record::RECORDS;
 pub use report::REPORTS;
 
@@ -241,6 +243,7 @@ impl Counts {
             let judged = judge_plan(tape, &lent.plan, &lent.multipliers);
             self.add_gap(judged);
             self.add_report(&furnace, &lent.plan, Report::of_answer(judged));
+            self.add_ranges(&furnace, &lent.multipliers, judged);
             let shown = judge_multipliers(tape, &lent.multipliers);
             self.add_shown(shown);
             if let Ok(furnace) = &furnace {
@@ -255,6 +258,7 @@ impl Counts {
             let (solved, rounded_down) = solve_both(tape, &mut plan, &mut multipliers);
             self.add_solved(solved, &furnace);
             self.add_solved_quotients(solved, &rounded_down);
+            self.add_slip_ranges(&furnace, &multipliers, solved);
             let sizes = furnace.as_ref().ok().map(Sizes::of);
             let of_solve = |sizes| Record::of_solve(sizes, solved, &plan, &multipliers).ok();
             record = sizes.and_then(of_solve);
@@ -384,11 +388,13 @@ pub fn count_cases(count: u64, first_seed: u64) -> Counts {
     counts.expect_imports();
     counts.expect_records();
     counts.expect_quotients();
+    counts.expect_ranges();
     for place in 0..count {
         let seed = first_seed.wrapping_add(place);
         counts.add_case(&case(seed));
         counts.add_given_of(seed);
         counts.add_imports(seed);
+        counts.add_duties(seed);
     }
     counts
 }

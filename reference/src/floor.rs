@@ -39,28 +39,53 @@ pub fn end_by_slope(column: &Column, s: Whole) -> Whole {
     }
 }
 
+/// Which of the three pieces applies to a plan number.
+#[derive(Clone, Copy, Debug, PartialEq, Eq)]
+pub enum Piece {
+    /// None of them: the weight is 0, and request 4's rule is in their place.
+    Unweighted,
+    /// The first: P × (v − r)² + s × v is least at lo.
+    First,
+    /// The second: it is least at hi.
+    Second,
+    /// The third: it is least between lo and hi.
+    Third,
+}
+
+impl Piece {
+    /// The one that applies at slope s. Where lo = hi the first two both could; the first one does.
+    pub fn of(column: &Column, s: Whole) -> Piece {
+        let Column {
+            lo,
+            hi,
+            reference: r,
+            weight,
+        } = *column;
+        let p = column.price();
+        if weight == 0 {
+            Piece::Unweighted
+        } else if 2 * p * (lo - r) + s >= 0 {
+            Piece::First
+        } else if 2 * p * (hi - r) + s <= 0 {
+            Piece::Second
+        } else {
+            Piece::Third
+        }
+    }
+}
+
 /// The piece of a plan number with slope s: a lower bound of P × (v − r)² + s × v over lo to hi,
 /// fractions of a unit included. At weight 0 it is s × lo where s ≥ 0 and s × hi otherwise.
 ///
 /// Where neither end is the least, v = r − s / 2P is, with s × r − s² / 4P. That v may be any
 /// fraction, so the quotient is rounded up (request 7): the piece is not above it.
 pub fn piece(column: &Column, s: Whole) -> Whole {
-    if column.weight == 0 {
-        return s * end_by_slope(column, s);
-    }
-    let p = column.price();
-    let Column {
-        lo,
-        hi,
-        reference: r,
-        ..
-    } = *column;
-    if 2 * p * (lo - r) + s >= 0 {
-        p * (lo - r) * (lo - r) + s * lo
-    } else if 2 * p * (hi - r) + s <= 0 {
-        p * (hi - r) * (hi - r) + s * hi
-    } else {
-        s * r - ceil_div(s * s, 4 * p)
+    let Column { lo, hi, .. } = *column;
+    match Piece::of(column, s) {
+        Piece::Unweighted => s * end_by_slope(column, s),
+        Piece::First => column.cost(lo) + s * lo,
+        Piece::Second => column.cost(hi) + s * hi,
+        Piece::Third => s * column.reference - ceil_div(s * s, 4 * column.price()),
     }
 }
 

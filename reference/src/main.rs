@@ -16,7 +16,8 @@ const HELP: &str = "\
 reference: a second program for the sinter furnace planner, written from the papers alone
 
 reference slip < TAPE
-    Writes the firing slip of the tape on standard input.
+    Writes the firing slip of the tape on standard input. A proved one ends with a line
+    `range LOW HIGH` for each first duty.
 
 reference record < TAPE
     Writes the firing record of the tape on standard input: a line `laboratory ..` and a line
@@ -43,6 +44,7 @@ reference expect < CASES
         read HEX
         steps HEX
         judge HEX / plan numbers / multipliers
+        ranges HEX / plan numbers / multipliers
         show HEX / multipliers
         solve HEX / plan numbers / multipliers
         entry HEX
@@ -58,15 +60,19 @@ reference expect < CASES
     low byte first, then three of what is given.
     Each case gives one line:
         refused NUMBER CARRIED    CARRIED is an offset, R, an entry's count, or - for nothing
-        refused 10 STEP COLUMN FOUND DUE    of judge: the place, the number there, the model's
-        refused 11 STEP COLUMN FOUND DUE    of judge: the place, the number there, the limit
-        refused 13 COST FLOOR     of judge
+        refused 10 STEP COLUMN FOUND DUE    of judge and ranges: the place, the number there,
+                                            the model's
+        refused 11 STEP COLUMN FOUND DUE    of judge and ranges: the place, the number there,
+                                            the limit
+        refused 13 COST FLOOR     of judge and ranges
         read ..                   118 numbers: n m N, A by rows of 6, B by rows of 4, w, lo,
                                   hi, r, h, x(0), g, R, T; places beyond the sizes are 0
         steps ..                  240 numbers: the reference of command 31 for column c and
                                   step k at 12c + k, 0 where none is given; its mark, 1 where
                                   one is given, at 120 + 12c + k
         gap GAP                   of judge
+        ranges ..                 8 numbers: the low and the high end of u(0,j) at 2j and 2j + 1;
+                                  places beyond m are 0
         shown                     of show
         proved ROUNDS GAP d d d d    of solve, with u(0) in 4 places
         impossible ROUNDS         of solve
@@ -78,25 +84,30 @@ reference expect < CASES
     After the line of a solve, refused or not, come two more lines, `plan ..` and
     `multipliers ..`, with what the slices hold at exit; after that of a model, refused or
     not, a line `out ..` with the bytes that out holds at exit.
-    Cases of whole numbers give the word again and a result for each part:
+    Cases of whole numbers give the word again and a result for each part, `range` two:
         quotient DIVIDEND DIVISOR / ..    rounded down
+        quotient_up DIVIDEND DIVISOR / .. rounded up
         limit NUMBER LO HI / ..           the number limited to lo and hi
         size NUMBER / ..                  without its sign
         square SLOPE DIVISOR / ..         the quotient of the square, rounded up
+        range WEIGHT LO HI REFERENCE SLOPE GAP / ..    the ends of a plan number's range
+        root NUMBER / ..                  the least number from 0 whose square is NUMBER or more
         operands HEX                      of 4 bytes: the first as unsigned, the first 2 as
                                           unsigned and as signed, the last 2 as signed, all as
                                           unsigned and as signed
 
 reference generate [COUNT [SEED]]
     Makes COUNT (10000) cases from the seeds SEED (0), SEED + 1, .., and for each seed a tape that
-    gives a drawn set of places, 50 entries and 2 models in floats, runs them through the calls and
-    writes how often each answer and each refusal came, how often 'proved' and 'impossible' came by
-    rounds, sizes, rare shapes, curves and weights of 0, what a solve came to with these, how often
-    a command 31 brought a refusal about, the first faults of plans by kind, side and step, how many
-    faults plans had, gaps at T and one above it, how many required places were missing, answers to
-    entries and models by kinds, sizes and rare shapes, records by kind, m, rare shapes and wrong
-    lengths, and which answers of judging and solving are others since the third piece's quotient
-    is rounded up. Fails if a count is 0, which is to be expected of a small COUNT.
+    gives a drawn set of places, 50 entries and 2 models in floats and 10 columns with slopes and
+    gaps, runs them through the calls and writes how often each answer and each refusal came, how
+    often 'proved' and 'impossible' came by rounds, sizes, rare shapes, curves and weights of 0,
+    what a solve came to with these, how often a command 31 brought a refusal about, the first
+    faults of plans by kind, side and step, how many faults plans had, gaps at T and one above it,
+    how many required places were missing, answers to entries and models by kinds, sizes and rare
+    shapes, records by kind, m, rare shapes and wrong lengths, which answers of judging and solving
+    are others since the third piece's quotient is rounded up, and the ranges of first duties and
+    of the columns by pieces, limits that they reach, m and rare shapes. Fails if a count is 0,
+    which is to be expected of a small COUNT.
 ";
 
 fn main() -> ExitCode {

@@ -6,7 +6,7 @@
 //! higher, with them the rounds end no later.
 
 use crate::calls::{read, solve_traced, Solved};
-use crate::floor::{sum_over_numbers, Multipliers};
+use crate::floor::{sum_over_numbers, Multipliers, Piece};
 use crate::model::{Column, Furnace, Whole};
 use crate::refusal::Refusal;
 use crate::rounds::{Candidate, Outcome, Round};
@@ -14,11 +14,8 @@ use crate::rounds::{Candidate, Outcome, Round};
 /// How much higher a piece would be with its quotient rounded down: 1 where it is the third one and
 /// s² / 4P is not whole, else 0.
 fn lowered_piece(column: &Column, s: Whole) -> Whole {
-    let p = column.price();
-    // At weight 0 one of the two holds, and nothing is divided.
-    let at_lo = 2 * p * (column.lo - column.reference) + s >= 0;
-    let at_hi = 2 * p * (column.hi - column.reference) + s <= 0;
-    Whole::from(!at_lo && !at_hi && s * s % (4 * p) != 0)
+    let is_third = Piece::of(column, s) == Piece::Third;
+    Whole::from(is_third && s * s % (4 * column.price()) != 0)
 }
 
 /// How much higher the floor of these multipliers would be with quotients rounded down.

@@ -1,9 +1,11 @@
 //! The firing slip.
 
-use crate::calls::{read, solve, Solved};
+use crate::calls::{lent_multipliers, read, solve, Solved};
+use crate::range::first_ranges;
 use crate::refusal::Refusal;
 
-/// The text that the printing program writes for a tape.
+/// The text that the printing program writes for a tape. Behind the first duties of a proved one
+/// stands the range of each, from the multipliers and the gap that the solve leaves (request 8).
 pub fn slip(tape: &[u8]) -> String {
     let furnace = match read(tape) {
         Ok(furnace) => furnace,
@@ -17,7 +19,12 @@ pub fn slip(tape: &[u8]) -> String {
             for duty in &first[..furnace.inputs] {
                 text += &format!(" {duty}");
             }
-            text + "\n"
+            text += "\n";
+            let y = lent_multipliers(&furnace, &multipliers);
+            for range in first_ranges(&furnace, &y, gap) {
+                text += &format!("range {} {}\n", range.low, range.high);
+            }
+            text
         }
         Ok(Solved::Impossible { rounds }) => format!("impossible\nrounds {rounds}\n"),
         Err(Refusal::Open { rounds }) => format!("open\nrounds {rounds}\n"),

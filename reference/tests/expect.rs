@@ -49,6 +49,36 @@ fn every_call() {
 }
 
 #[test]
+fn ranges_or_the_refusal_of_judge() {
+    let f = format!("{F_FRONT} 50 19 00 05 00 40 9C 00 00 FF");
+    let pair = format!("{PAIR_FRONT} 50 01 00 01 00 FF FF FF FF FF");
+    // The arguments of each, and the line; `judge` has the same unless it is accepted.
+    let cases = [
+        (format!("{f} / 4 102 / -16"), "ranges 1 7 0 0 0 0 0 0"),
+        (format!("{f}/3 102/-16"), "ranges 3 5 0 0 0 0 0 0"),
+        (
+            format!("{pair} / 0 1 20 23 0 1 32 26 / 0 0 0 0"),
+            "ranges -8 8 -6 8 0 0 0 0",
+        ),
+        (format!("{f} / 4 103 / -16"), "refused 10 0 0 103 102"),
+        (format!("{f} / 41 103 / -16"), "refused 11 0 1 41 40"),
+        (format!("{f} / 4 102 / 0"), "refused 13 327680 0"),
+        (format!("{f} / 4 103 / 16777217"), "refused 12 -"),
+        (format!("{f} / 4 / 16777217"), "refused 9 -"),
+        (format!("{f} / 4 102 / "), "refused 9 -"),
+        (format!("{F_FRONT} FF / 4 / "), "refused 7 36"),
+        (" / / ".to_string(), "refused 1 0"),
+    ];
+    for (arguments, line) in cases {
+        let answer = |call: &str| expect(&format!("{call} {arguments}")).unwrap();
+        assert_eq!(answer("ranges"), format!("{line}\n"));
+        if line.starts_with("refused") {
+            assert_eq!(answer("judge"), format!("{line}\n"));
+        }
+    }
+}
+
+#[test]
 fn read_line_has_all_places() {
     let tape = with_search(PAIR_FRONT, 3, 7, 9);
     let numbers = read_numbers(&read(&tape).unwrap());
@@ -171,15 +201,27 @@ fn given_marks() {
 #[test]
 fn whole_numbers() {
     let cases = "quotient -1 2 / 1 2 / -9223372036854775808 9223372036854775807\n\
+        quotient_up -1 2 / 1 2 / 4 2 / -9223372036854775808 9223372036854775807\n\
         limit -4 -3 9 / 10 -3 9 / 5 -3 9\n\
         size 7 / -9223372036854775808\n\
         square 9 2 / -9 2 / 8 2 / 0 5 / 9223372036854775807 1\n\
+        range 1 0 40 0 -32768 32768 / 0 -3 9 5 -7 1 / 1 -3 9 5 9223372036854775807 0\n\
+        range 255 -20000 20000 -20000 -8355840000 9223372036854775807\n\
+        root 0 / 1 / 2 / 4 / 5 / 9223372036854775807 / 18446744073709551615\n\
+        root 18446744065119617024 / 18446744065119617025 / 18446744065119617026\n\
         operands 01 80 FF 7F\n";
-    // Squares: 81 / 2 is 40.5, upwards, and 64 / 2 is whole.
+    // Squares: 81 / 2 is 40.5, upwards, and 64 / 2 is whole. Ranges: tape F's; weight 0; the first piece
+    // with gap 0; the third, from −20,000 + 4,000 as far as the limits. Roots: 3,037,000,500² is the
+    // first square above the largest i64, and 4,294,967,295² is 18,446,744,065,119,617,025.
     let expected = "quotient -1 0 -2\n\
+        quotient_up 0 1 2 -1\n\
         limit -3 9 5\n\
         size 7 9223372036854775808\n\
         square 41 41 32 0 85070591730234615847396907784232501249\n\
+        range 1 7 -3 9 -3 -3\n\
+        range -20000 20000\n\
+        root 0 1 2 2 3 3037000500 4294967296\n\
+        root 4294967295 4294967295 4294967296\n\
         operands 1 32769 -32767 32767 2147450881 2147450881\n";
     assert_eq!(expect(cases).unwrap(), expected);
 }
@@ -194,6 +236,9 @@ fn texts_that_are_no_cases() {
         "read 10 / 1",
         "steps 10 / 1",
         "judge 10 / 1",
+        "ranges 10 / 1",
+        "ranges 10 / 1 / 1.5",
+        "ranges 10 / 1 / 1 / 1",
         "show 10",
         "show 10 / 1.5",
         "show 10 / 2147483648",
@@ -201,6 +246,23 @@ fn texts_that_are_no_cases() {
         "square 1 0",
         "quotient 1 2 3",
         "limit 1 3 2",
+        "range",
+        "range 1 0 40 0 5",
+        "range 1 0 40 0 5 6 7",
+        "range 1 0 40 0 5 6 / 1",
+        "range -1 0 40 0 5 6",
+        "range 256 0 40 0 5 6",
+        "range 1 41 40 0 5 6",
+        "range 1 -20001 40 0 5 6",
+        "range 1 0 20001 0 5 6",
+        "range 1 0 40 20001 5 6",
+        "range 1 0 40 0 5 -1",
+        "range 1 0 40 0 9223372036854775808 6",
+        "root",
+        "root 1 2",
+        "root 1.5",
+        "root -1",
+        "root 18446744073709551616",
         "size 9223372036854775808",
         "size",
         "entry",

@@ -121,7 +121,10 @@ fn piece_of_a_single_number() {
 
 #[test]
 fn slip_of_tape_f() {
-    assert_eq!(slip(&tape_f()), "proved\nrounds 2\ngap 32768\nfirst 4\n");
+    // s = −16 × 2048: (8192 v − 32,768)² is at most 16,384 × 32,768 = 2^29, so 8192 v is within 23,170
+    // of 32,768, and v from 1.17 to 6.83 (request 8).
+    let text = "proved\nrounds 2\ngap 32768\nfirst 4\nrange 1 7\n";
+    assert_eq!(slip(&tape_f()), text);
     let without_search = hex(&format!("{F_FRONT} FF"));
     assert_eq!(slip(&without_search), "refused 7 at 36\n");
     assert_eq!(slip(&[]), "refused 1 at 0\n");
@@ -135,7 +138,11 @@ fn slip_of_two_inputs() {
     let tape = with_search(PAIR_FRONT, 1, 1, u32::MAX);
     // x(1) = 10 + 10 + 0, 20 + 2 + 1 = 20, 23; x(2) = 20 + 11.5 + 0, 23 + 2 + 1 = 32, 26 with
     // the half rounded up. K = 4096 × (0 + 2 × 4 + 144 + 2 × 1) = 4096 × 154, floor 0.
-    assert_eq!(slip(&tape), "proved\nrounds 1\ngap 630784\nfirst 0 1\n");
+    // With slopes of 0: 3 v² and 4 (v − 1)² are at most 154, v² at most 51.3 and (v − 1)² at most 38.5.
+    assert_eq!(
+        slip(&tape),
+        "proved\nrounds 1\ngap 630784\nfirst 0 1\nrange -8 8\nrange -6 8\n"
+    );
 }
 
 #[test]

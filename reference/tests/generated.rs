@@ -54,6 +54,13 @@ fn same_seed_same_imports() {
 }
 
 #[test]
+fn same_seed_same_duties() {
+    for seed in 0..100 {
+        assert_eq!(generate::duties(seed), generate::duties(seed));
+    }
+}
+
+#[test]
 fn kinds_meant_to_be_accepted_are() {
     let mut longest = 0;
     for seed in SEEDS {
@@ -426,5 +433,11 @@ fn few_seeds_lead_to_every_answer() {
     }
     for name in ["proved, gap larger", "proved later", "impossible later"] {
         assert!(counts.count(solved, name) > 0, "{name}");
+    }
+    for heading in count::RANGES {
+        for name in ["weight 0", "first, hi", "second, lo", "third, neither"] {
+            let heading = format!("{heading}, ends");
+            assert!(counts.count(&heading, name) > 0, "{heading}: {name}");
+        }
     }
 }

@@ -248,7 +248,9 @@ fn rounding_up_makes_the_gap_larger() {
     assert_eq!(judged, Err(Refusal::Wide { cost, floor }));
     // Round 0: u 0 and x 0 leave e = 4096, and (4096 × 16 + 32,768) / 65,536 = 1.5. Round 1: y~ = 1,
     // u = −3 / 8192 and x = 1/2 are 0 and 1, e = 0. So all later rounds are the same.
-    assert_eq!(slip(&tape(3_073)), "proved\nrounds 2\ngap 3073\nfirst 0\n");
+    // (8192 v + 3)² is at most 16,384 × 3,073 = 50,348,032, 8192 v + 3 within 7,095.6, v within 0.87.
+    let text = "proved\nrounds 2\ngap 3073\nfirst 0\nrange -1 1\n";
+    assert_eq!(slip(&tape(3_073)), text);
     assert_eq!(slip(&tape(3_072)), "open\nrounds 5\n");
     let (answer, down) = solve_both(&tape(3_072), &mut [0, 0], &mut [0]);
     assert_eq!(answer, Err(Refusal::Open { rounds: 5 }));

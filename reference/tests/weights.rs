@@ -113,7 +113,9 @@ fn slopes_of_0_take_the_lower_ends() {
         assert_eq!(rounds[0].numbers.u, [[0]]);
         let x = if state == 0 { -1000 } else { 110 };
         assert_eq!(rounds[0].numbers.x, [[100], [x]]);
-        let text = format!("proved\nrounds 1\ngap {gap}\nfirst 0\n");
+        // With weight 1 the first piece applies, and the gap is 0.
+        let high = if input == 0 { 40 } else { 0 };
+        let text = format!("proved\nrounds 1\ngap {gap}\nfirst 0\nrange 0 {high}\n");
         assert_eq!(slip(&tape), text);
     }
 }

@@ -1,6 +1,7 @@
 // Cases of the test programs: a line each, `read HEX`, `steps HEX`, `judge HEX / numbers / numbers`,
-// `show HEX / numbers`, `solve HEX / numbers / numbers`, `entry HEX`, `model HEX / numbers`, `count HEX`
-// or `missing HEX / numbers`, as the second program takes them. What follows a # is passed over.
+// `ranges HEX / numbers / numbers`, `show HEX / numbers`, `solve HEX / numbers / numbers`, `entry HEX`,
+// `model HEX / numbers`, `count HEX` or `missing HEX / numbers`, as the second program takes them. What
+// follows a # is passed over.
 use integer::number::size;
 use tape::refusal::Carried;
 use tape::refusal::Refusal;
@@ -8,7 +9,7 @@ use tape::refusal::carries;
 use tape::refusal::number;
 
 // A case as far as it has been read, character by character. The kind is the last such letter of the
-// line's word, 0 before it. Digits of a tape, or of floats, are 0 to 9 and A to F; numbers are decimal.
+// line's word, 0 before it; `read` and `ranges`, of two programs, share theirs. Digits of a tape, or of floats, are 0 to 9 and A to F; numbers are decimal.
 pub struct Case {
     pub kind: u8,
     pub comment: bool,

@@ -13,7 +13,7 @@ use integer::number::square_quotient;
 use primal::cost::cost_of;
 
 // 2P (v - r) + s.
-fn tilt_at(p: i64, v: i64, r: i64, s: i64) -> i64
+pub fn tilt_at(p: i64, v: i64, r: i64, s: i64) -> i64
     requires { ⌜ (natAbs p ≤ mostPenalty) × (natAbs v ≤ mostNumber) × (natAbs r ≤ mostNumber) × (natAbs s ≤ mostSlope) ⌝ }
     ensures { λ q. ⌜ q ≡ pos 2 *ℤ p *ℤ (v -ℤ r) +ℤ s ⌝ }
 {

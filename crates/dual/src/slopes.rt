@@ -9,13 +9,21 @@ ghost use Rattle.primal.specs.Padded.{stateMatrix, inputMatrix, padded};
 ghost use Rattle.dual.specs.Slopes.{byPlace};
 use primal::dot::dot;
 
+// The slope of u(k,j).
+pub fn input_slope_at(b: &[i64; 24], y: &[i64; 72], k: usize, j: usize) -> i64
+    requires { ⌜ (k < 12) × (j < 4) × Bounded mostEntry (now b) × Bounded mostMultiplier (now y) ⌝ }
+    ensures { λ r. ⌜ r ≡ inputSlope 6 (inputMatrix (now (b .entry))) (padded (now (y .entry))) k j ⌝ }
+{
+    dot(y, 6 * k, b, j, 4, 6)
+}
+
 fn input_slopes(s: &mut [i64; 120], b: &[i64; 24], y: &[i64; 72], k: usize)
     requires { ⌜ (k < 12) × (length (now s) ≡ 120) × Bounded mostEntry (now b) × Bounded mostMultiplier (now y) ⌝ }
     ensures { λ _. ⌜ Stretch (10 * k) 4 (inputSlope 6 (inputMatrix (now (b .entry))) (padded (now (y .entry))) k) (now (s .entry)) (now (s .exit)) ⌝ }
 {
     let mut j: usize = 0;
     while j < 4 {
-        s[10 * k + j] = dot(y, 6 * k, b, j, 4, 6);
+        s[10 * k + j] = input_slope_at(b, y, k, j);
         j += 1;
     }
 }

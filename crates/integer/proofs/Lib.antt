@@ -10,6 +10,7 @@ pub mod Limited
 pub mod Operand
 pub mod Encoding
 pub mod Places
+pub mod Root
 pub mod Middle
 pub mod Filled
 pub mod Naturals

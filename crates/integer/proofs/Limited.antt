@@ -11,7 +11,7 @@ use Rattle.integer.proofs.Order.{order}
 use Rattle.integer.proofs.Sizes.{size-parts}
 
 -- by the two tests
-by-tests : (lo hi x : ℤ) (P : ℤ → Type 0) → (x ≺ lo → P lo) → (lo ≼ x → hi ≺ x → P hi) → (lo ≼ x → x ≼ hi → P x) → P (limited lo hi x)
+pub by-tests : (lo hi x : ℤ) (P : ℤ → Type 0) → (x ≺ lo → P lo) → (lo ≼ x → hi ≺ x → P hi) → (lo ≼ x → x ≼ hi → P x) → P (limited lo hi x)
 unfolding limited
 by-tests lo hi x P f g h = go (ltZ x lo) (ltZ hi x) refl refl
   where

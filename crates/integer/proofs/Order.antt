@@ -171,3 +171,15 @@ mul-cancel k {a} {b} p e =
     let l : a ≼ b = mul-cancel-le k p (omega (arith, order, eq→ e)) in
     let m : b ≼ a = mul-cancel-le k p (omega (arith, order, eq→ e)) in
     omega (arith, order)
+
+-- the order of squares is that of the numbers, where the larger is from 0 on
+pub square-cancel : (a b : ℤ) → pos 0 ≼ b → a *ℤ a ≼ b *ℤ b → a ≼ b
+square-cancel a b n h = go (le-or-lt a b)
+  where
+    go : (a ≼ b) ⊎ (b ≺ a) → a ≼ b
+    go (inl q) = q
+    go (inr q) =
+        let l : a *ℤ b ≺ a *ℤ a = mul-lt a (omega (arith, order)) q in
+        let m : b *ℤ b ≼ b *ℤ a = mul-le b n (omega (arith, order)) in
+        let z : ⊥ = omega (arith, order, ring 2 (λ a b. b ⊗ a ≐ a ⊗ b) tt a b) in
+        absurd z

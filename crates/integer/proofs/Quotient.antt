@@ -13,7 +13,7 @@ use Rattle.integer.specs.Quotient.{_÷_, quotientUp}
 use Rattle.integer.proofs.Parts.{up, dn, plus, minus, negated, times}
 use Rattle.integer.proofs.Ring.{ring, K, ⊝, _⊕_, _⊖_, _⊗_, _≐_}
 use Rattle.integer.proofs.Order.{order, le-by, mul-cancel-lt, diff-nonneg}
-use Rattle.integer.proofs.Sizes.{fit, →fits}
+use Rattle.integer.proofs.Sizes.{fit, →fits, size-neg}
 
 -- ---- d q ≤ z < d (q + 1) fixes q
 
@@ -109,6 +109,11 @@ up-shift d x y p =
     rw (ring 3 (λ d x y. ⊝ (d ⊗ x ⊕ y) ≐ d ⊗ ⊝ x ⊕ ⊝ y) tt d x y, quotient-shift d (negℤ x) (negℤ y) p)
     (ring 2 (λ x c. ⊝ (⊝ x ⊕ c) ≐ x ⊕ ⊝ c) tt x (negℤ y ÷ d))
 
+-- it is no larger than the number
+pub size-up : (z d : ℤ) → natAbs (quotientUp z d) ≤ natAbs z
+unfolding quotientUp
+size-up z d = rw (size-neg (negℤ z ÷ d)) (rw (size-neg z) at (size-quotient (negℤ z) d))
+
 -- d − 1 more, and then rounded down, give the same
 pub up-is : (z d : ℤ) → pos 1 ≼ d → (z +ℤ (d -ℤ pos 1)) ÷ d ≡ quotientUp z d
 up-is z d p =
@@ -122,6 +127,12 @@ up-is z d p =
     quotient-least y d u p (rw (next u) (omega (arith, order, up-enough z d p, plus (d *ℤ u) d, plus z (d -ℤ pos 1), minus d (pos 1))))
     in
     omega (arith, order)
+
+-- and so does one more than the quotient of z − 1
+pub up-from-one : (z d : ℤ) → pos 1 ≼ d → (z -ℤ pos 1) ÷ d +ℤ pos 1 ≡ quotientUp z d
+up-from-one z d p =
+    let e : z +ℤ (d -ℤ pos 1) ≡ d *ℤ pos 1 +ℤ (z -ℤ pos 1) = ring 2 (λ z d. z ⊕ (d ⊖ K 1) ≐ d ⊗ K 1 ⊕ (z ⊖ K 1)) tt z d in
+    rw (← up-is z d p, e, quotient-shift d (pos 1) (z -ℤ pos 1) p) (ring 1 (λ q. q ⊕ K 1 ≐ K 1 ⊕ q) tt ((z -ℤ pos 1) ÷ d))
 
 -- ---- The machine's division
 
@@ -145,3 +156,13 @@ mirrored-quotient (negsuc a) (pos d) h k =
     let e : negsuc 0 -ℤ negsuc a ≡ pos a = omega (arith, order, minus (negsuc 0) (negsuc a)) in
     ap (λ (x : ℤ). negsuc 0 -ℤ quotZ x (pos d)) e ∙ (omega (arith, order, minus (negsuc 0) (pos (a / d))))
 mirrored-quotient (negsuc a) (negsuc d) h k = absurd (k .le)
+
+-- toward 0 is up where z is at most 0
+pub machine-up : (z d : ℤ) → z ≼ pos 0 → pos 1 ≼ d → quotZ z d ≡ quotientUp z d
+unfolding _÷_ quotientUp
+machine-up (pos a) (pos d) h k =
+    let e : a ≡ 0 = omega (arith, order) in
+    let z : 0 / d ≡ 0 = omega (arith, div-le-self 0 d) in
+    rw (e, z)
+machine-up (negsuc a) (pos d) h k = refl
+machine-up z (negsuc d) h k = absurd (k .le)

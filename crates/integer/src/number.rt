@@ -5,6 +5,7 @@ ghost use lib.IntN.{pos, natAbs, _*ℤ_};
 ghost use Rattle.integer.specs.Limited.{limited};
 ghost use Rattle.integer.specs.Order.{_≼_};
 ghost use Rattle.integer.specs.Quotient.{_÷_, quotientUp};
+ghost use Rattle.integer.specs.Root.{rootUp, LeastRoot};
 ghost use Rattle.integer.specs.Tests.{outside};
 
 // x / d rounded down. Every divisor of document 01 is from 1: 4,096, 65,536, k + 2 and 2P, by which
@@ -17,6 +18,17 @@ pub fn quotient(x: i64, d: i64) -> i64
         return x / d;
     }
     -1 - (-1 - x) / d
+}
+
+// x / d rounded up. The machine rounds toward 0, which is up for numbers below 0.
+pub fn quotient_up(x: i64, d: i64) -> i64
+    requires { ⌜ pos 1 ≼ d ⌝ }
+    ensures { λ r. ⌜ r ≡ quotientUp x d ⌝ }
+{
+    if 0 < x {
+        return (x - 1) / d + 1;
+    }
+    x / d
 }
 
 // x limited to lo to hi.
@@ -64,4 +76,26 @@ pub fn square_quotient(s: i64, d: i64) -> i64
     let mut total = a * (s + b);
     total += (b * b + (d - 1)) / d;
     total
+}
+
+// The root of z rounded up: one more than the largest number whose square is below z. No root is
+// beyond 2^32, and no square is formed but of numbers below that.
+pub fn root_up(z: u64) -> u64
+    ensures { λ r. ⌜ r ≡ rootUp z ⌝ }
+    ensures { λ r. ⌜ LeastRoot z r ⌝ }
+{
+    if z == 0 {
+        return 0;
+    }
+    let mut low: u64 = 0;
+    let mut high: u64 = 4294967296;
+    while low + 1 < high {
+        let middle = (low + high) / 2;
+        if middle * middle < z {
+            low = middle;
+        } else {
+            high = middle;
+        }
+    }
+    low + 1
 }

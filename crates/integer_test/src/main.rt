@@ -6,14 +6,18 @@ use integer::bytes::u16_at;
 use integer::bytes::u32_at;
 use integer::number::limit;
 use integer::number::quotient;
+use integer::number::quotient_up;
+use integer::number::root_up;
 use integer::number::size;
 use integer::number::square_quotient;
 
 fn main() {
     quotients();
+    quotients_up();
     limits();
     sizes();
     squares();
+    roots();
     operands(&[0x00, 0x00, 0x00, 0x00]);
     operands(&[0x01, 0x02, 0x03, 0x04]);
     operands(&[0xFF, 0x7F, 0xFF, 0x7F]);
@@ -38,6 +42,25 @@ fn quotients() {
     print::number(quotient(-9223372036854775808, 1));
     print::number(quotient(-9223372036854775808, 9223372036854775807));
     print::number(quotient(-1, 9223372036854775807));
+    print::end();
+}
+
+// The same, rounded up.
+fn quotients_up() {
+    print::word(b"quotient_up");
+    print::number(quotient_up(0, 4096));
+    print::number(quotient_up(1, 4096));
+    print::number(quotient_up(-1, 4096));
+    print::number(quotient_up(4096, 4096));
+    print::number(quotient_up(4097, 4096));
+    print::number(quotient_up(-4095, 4096));
+    print::number(quotient_up(-4096, 4096));
+    print::number(quotient_up(-4097, 4096));
+    print::number(quotient_up(9223372036854775807, 1));
+    print::number(quotient_up(-9223372036854775808, 1));
+    print::number(quotient_up(9223372036854775807, 2));
+    print::number(quotient_up(-9223372036854775808, 9223372036854775807));
+    print::number(quotient_up(1, 9223372036854775807));
     print::end();
 }
 
@@ -74,6 +97,24 @@ fn squares() {
     print::number(square_quotient(-137438953471, 16384));
     print::number(square_quotient(137438953471, 4177920));
     print::number(square_quotient(-83558400000, 4177920));
+    print::end();
+}
+
+// Around squares; 4P times the gap of tape F, and with the largest weight and gap; the largest u64.
+fn roots() {
+    print::word(b"root");
+    print::unsigned(root_up(0));
+    print::unsigned(root_up(1));
+    print::unsigned(root_up(2));
+    print::unsigned(root_up(4));
+    print::unsigned(root_up(5));
+    print::unsigned(root_up(536870912));
+    print::unsigned(root_up(536848900));
+    print::unsigned(root_up(536848901));
+    print::unsigned(root_up(17944029761126400));
+    print::unsigned(root_up(18446744065119617025));
+    print::unsigned(root_up(18446744065119617026));
+    print::unsigned(root_up(18446744073709551615));
     print::end();
 }
 

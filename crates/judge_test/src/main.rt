@@ -1,10 +1,13 @@
-// Judges the cases on standard input and writes the answers.
+// Judges the cases on standard input and writes the answers, or the ranges of the first duties.
 use cases::Case;
 use cases::refused;
 use judge::Judged;
 use judge::Shown;
 use judge::judge_multipliers;
 use judge::judge_plan;
+use ranges::Ranging;
+use ranges::judge_ranges;
+use ranges::range::Range;
 
 fn main() {
     let mut case = Case::new();
@@ -48,6 +51,7 @@ fn judge(case: Case) {
     match kind {
         b'j' => show_judged(&tape, bytes, &first, counts[0], &second, counts[1]),
         b'h' => show_shown(&tape, bytes, &first, counts[0]),
+        b'r' => show_ranges(&tape, bytes, &first, counts[0], &second, counts[1]),
         _ => {}
     }
 }
@@ -86,4 +90,33 @@ fn show_shown(tape: &[u8], bytes: usize, multipliers: &[i32], q: usize) {
         Shown::Refused(why) => refused(why),
     }
     print::end();
+}
+
+fn show_ranges(tape: &[u8], bytes: usize, plan: &[i32], p: usize, multipliers: &[i32], q: usize) {
+    if tape.len() < bytes {
+        return;
+    }
+    if plan.len() < p {
+        return;
+    }
+    if multipliers.len() < q {
+        return;
+    }
+    let ranging = judge_ranges(&tape[..bytes], &plan[..p], &multipliers[..q]);
+    match ranging {
+        Ranging::Ranges(ranges) => {
+            print::word(b"ranges");
+            show_range(ranges.u0);
+            show_range(ranges.u1);
+            show_range(ranges.u2);
+            show_range(ranges.u3);
+        }
+        Ranging::Refused(why) => refused(why),
+    }
+    print::end();
+}
+
+fn show_range(range: Range) {
+    print::number(range.low);
+    print::number(range.high);
 }

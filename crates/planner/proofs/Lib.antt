@@ -4,3 +4,4 @@ pub mod Seen
 pub mod Imported
 pub mod Recorded
 pub mod Reported
+pub mod Ranged

@@ -2,5 +2,6 @@
 pub mod Calls
 pub mod Demand
 pub mod Imports
+pub mod Ranges
 pub mod Records
 pub mod Reports

@@ -61,14 +61,14 @@ module _ (D : ℤ) (t : Term) (s v : ℤ) where
   r = t .reference
 
   -- over any number z in the piece's place
-  abbrev over : ℤ → ℤ
+  abbrev pub over : ℤ → ℤ
   over z = cost (finerTerm D t) v +ℤ D *ℤ (s *ℤ v) -ℤ square D *ℤ z
 
   abbrev pub slack : ℤ
   slack = over (piece t s)
 
   -- P (V − D r)² + D s V is convex: from a D a where it does not fall it rises by at least P (V − D a)²
-  above : (a : ℤ) → pos 0 ≼ D → pos 0 ≼ (v -ℤ D *ℤ a) *ℤ tilt t s a → p *ℤ square (v -ℤ D *ℤ a) ≼ over (cost t a +ℤ s *ℤ a)
+  pub above : (a : ℤ) → pos 0 ≼ D → pos 0 ≼ (v -ℤ D *ℤ a) *ℤ tilt t s a → p *ℤ square (v -ℤ D *ℤ a) ≼ over (cost t a +ℤ s *ℤ a)
   unfolding tilt cost
   above a some h =
       le-by (D *ℤ ((v -ℤ D *ℤ a) *ℤ tilt t s a)) (mul-nonneg some h)
@@ -77,7 +77,7 @@ module _ (D : ℤ) (t : Term) (s v : ℤ) where
       ≐ p ⊗ ((v ⊖ D ⊗ r) ⊗ (v ⊖ D ⊗ r)) ⊕ D ⊗ (s ⊗ v) ⊖ D ⊗ D ⊗ (p ⊗ ((a ⊖ r) ⊗ (a ⊖ r)) ⊕ s ⊗ a)) tt D p r s a v)
 
   -- over the third piece 4P times the slack is at least (2P (V − D r) + D s)²
-  between : pos 1 ≼ p → square (tilt (finerTerm D t) (D *ℤ s) v) ≼ pos 4 *ℤ p *ℤ over (s *ℤ r -ℤ conjugate p s)
+  pub between : pos 1 ≼ p → square (tilt (finerTerm D t) (D *ℤ s) v) ≼ pos 4 *ℤ p *ℤ over (s *ℤ r -ℤ conjugate p s)
   unfolding tilt cost
   between h =
       let c = conjugate p s in

@@ -47,13 +47,16 @@ conjugate p s = cond (weightless p) (pos 0) (quotientUp (square s) (pos 4 *ℤ p
 unfoldable pub tilt : Term → ℤ → ℤ → ℤ
 tilt t s v = pos 2 *ℤ t .penalty *ℤ (v -ℤ t .reference) +ℤ s
 
--- At P = 0 s × lo where s ≥ 0, s × hi otherwise; else document 01's three.
+-- Which of document 01's three applies where P is from 1.
+abbrev pub byPiece : Term → ℤ → ℤ → ℤ → ℤ → ℤ
+byPiece t s first second third =
+    cond (leZ (pos 0) (tilt t s (t .low))) first (cond (leZ (tilt t s (t .high)) (pos 0)) second third)
+
+-- At P = 0 s × lo where s ≥ 0, s × hi otherwise; else one of the three.
 unfoldable pub piece : Term → ℤ → ℤ
 piece t s =
     cond (weightless (t .penalty)) (s *ℤ unweighted (t .low) (t .high) s)
-    (cond (leZ (pos 0) (tilt t s (t .low))) (cost t (t .low) +ℤ s *ℤ t .low)
-    (cond (leZ (tilt t s (t .high)) (pos 0)) (cost t (t .high) +ℤ s *ℤ t .high)
-    (s *ℤ t .reference -ℤ conjugate (t .penalty) s)))
+    (byPiece t s (cost t (t .low) +ℤ s *ℤ t .low) (cost t (t .high) +ℤ s *ℤ t .high) (s *ℤ t .reference -ℤ conjugate (t .penalty) s))
 
 unfoldable pub pieces : Problem → (ℕ → ℕ → ℤ) → ℤ
 pieces q y =

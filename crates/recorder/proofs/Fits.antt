@@ -1,22 +1,20 @@
 -- What a tape's record holds fits its places: the gap by the theorem and T, the plan by the limits.
 use Prim.Native.Nat.{ℕ, _+_, _-_, _*_, _/_, _%_, _<_, _≤_}
-use mathlib.Core.Path.{_≡_, refl}
-use mathlib.Core.Bool.{false, _||_}
-use mathlib.Core.List.{List, [], _∷_}
+use mathlib.Core.Path.{_≡_}
+use mathlib.Core.Bool.{false}
+use mathlib.Core.List.{List}
 use mathlib.Core.Logic.{⊎-elim}
 use native.Mathlib.Omega.{arith}
 use native.Mathlib.Nat.{div-add-mod, div-lt-iff-lt-mul, mod-lt}
 use borrow.Author.Tests.{eqb-true, not-false}
-use lib.IntN.{ℤ, natAbs, _-ℤ_}
-use lib.Signed.{ltZ}
+use lib.IntN.{ℤ, natAbs}
 use Rattle.integer.specs.Order.{_≼_}
 use Rattle.integer.specs.Places.{at, Bounded}
 use Rattle.integer.proofs.Operand.{Bytes}
 use Rattle.integer.proofs.Order.{order}
-use Rattle.integer.proofs.Parts.{minus}
 use Rattle.integer.proofs.Places.{lt-or-le, all-bounded}
 use Rattle.integer.proofs.Sizes.{size-by, size-low, size-high}
-use Rattle.integer.proofs.Tests.{by-test, none}
+use Rattle.integer.proofs.Tests.{by-test}
 use Rattle.commands.specs.Ranges.{mostNumber, mostMultiplier}
 use Rattle.tape.specs.declared.Answer.{Answer}
 use Rattle.tape.specs.declared.Answer.the-variants as answer
@@ -28,21 +26,16 @@ use Rattle.tape.specs.Legal.{Legal}
 use Rattle.tape.specs.Reading.{reading}
 use Rattle.tape.specs.Refusals.{row, figure}
 use Rattle.tape.specs.Tape.{zeros}
-use Rattle.tape.proofs.Facts.{legal}
-use Rattle.problem.specs.Model.{problemOf, planOf, multipliersOf}
-use Rattle.problem.specs.Cost.{FollowsTape, costOf}
-use Rattle.problem.specs.Dual.{floorOf, shows}
-use Rattle.lent.specs.declared.walk.Check.{Check}
-use Rattle.lent.specs.declared.walk.Check.the-variants as check
-use Rattle.lent.specs.Checks.{planCheck, wrongPlanLength, wrongMultipliersLength, wrongMultipliers}
+use Rattle.problem.specs.Model.{problemOf, multipliersOf}
+use Rattle.problem.specs.Cost.{FollowsTape}
+use Rattle.problem.specs.Dual.{shows}
+use Rattle.lent.specs.Checks.{wrongMultipliersLength, wrongMultipliers}
 use Rattle.lent.proofs.LentMultipliers.{multipliers-bounded}
-use Rattle.judge.specs.declared.Judged.{Judged}
-use Rattle.judge.specs.declared.Judged.the-variants as judged
 use Rattle.judge.specs.declared.Shown.{Shown}
 use Rattle.judge.specs.declared.Shown.the-variants as shown
-use Rattle.judge.specs.Judging.{gapWithin, afterCheck, judgedOn, judgedAfterRead, shownOn, shownAfterRead}
+use Rattle.judge.specs.Judging.{shownOn, shownAfterRead}
 use Rattle.judge.specs.Judging as judging
-use Rattle.judge.proofs.Units.{in-whole-units}
+use Rattle.judge.proofs.Granted.{granted, gap-nonneg}
 use Rattle.solver.specs.declared.Solved.{Solved}
 use Rattle.solver.specs.declared.Solved.the-variants.{Proved, Impossible, Refused}
 use Rattle.solver.specs.Demand.{Upheld, JudgedAgain}
@@ -79,36 +72,13 @@ plan-within t ok plan r = all-bounded plan (t .horizon * (t .n + t .m)) (r .long
         rw f (limited i (at plan (k * w + (t .m + i))) (r .follows .states-within k i below (omega (arith, mod-lt p some)))))
         (lt-or-le j (t .m))
 
--- ---- What the judges' answers say
+-- ---- What 'shown' says
 
 abbrev Multipliers : Tape → List ℤ → Type 0
 Multipliers t y = Numbers (multiplierNumbers t) mostMultiplier y
 
 multipliers-within : (t : Tape) (y : List ℤ) → wrongMultipliersLength t y ≡ false → wrongMultipliers y ≡ false → Multipliers t y
 multipliers-within t y l w = record { long = eqb-true _ _ (not-false _ l); within = multipliers-bounded y w }
-
-abbrev OnGap : Tape → List ℤ → Judged → Type 0
-OnGap t y (judged.Gap gap) = Legal t × (gap ≼ t .wanted) × Multipliers t y
-OnGap t y (judged.Refused why) = Unit {0}
-
-on-gap : (s : List ℕ) (plan y : List ℤ) → Bytes s → OnGap (reading s .tape) y (judging.judged s plan y)
-unfolding judging.judged judgedOn gapWithin
-on-gap s plan y b = go (reading s .answer) refl
-  where
-    t : Tape
-    t = reading s .tape
-
-    checked : (c : Check) → Legal t → Multipliers t y → OnGap t y (afterCheck c (gapWithin t (costOf t plan) (floorOf t y)))
-    checked check.Passed ok h = by-test (OnGap t y) (ltZ (t .wanted) (costOf t plan -ℤ floorOf t y)) (λ _. tt) (λ e. (ok, omega (arith, order), h))
-    checked (check.Failed failure) ok h = tt
-
-    go : (a : Answer) → reading s .answer ≡ a → OnGap t y (judgedAfterRead a (judgedOn t plan y))
-    go answer.Accepted e =
-        by-test (OnGap t y) (wrongPlanLength t plan || wrongMultipliersLength t y) (λ _. tt)
-        (λ l. by-test (OnGap t y) (wrongMultipliers y) (λ _. tt)
-        (λ w. checked (planCheck (problemOf t) (planOf (t .n) (t .m) plan)) (legal s b e)
-        (multipliers-within t y (none (wrongPlanLength t plan) (wrongMultipliersLength t y ∷ []) l .1 .0) w)))
-    go (answer.Refused why) e = tt
 
 abbrev OnShown : Tape → List ℤ → Shown → Type 0
 OnShown t y shown.Shown = Multipliers t y
@@ -146,18 +116,18 @@ module _ (s : List ℕ) (b : Bytes s) where
 
   answer-fits : (a : Solved) (plan y : List ℤ) → JudgedAgain a s plan y → Upheld a t plan y → SmallSolved a → KeptFits (recordOf (sizesOf t) a plan y)
   answer-fits (Proved rounds gap first) plan y j u h =
-      let g : OnGap t y (judged.Gap gap) = rw j at (on-gap s plan y b) in
-      let ok = g .0 in
+      let g = granted s plan y b gap j in
+      let ok = g .lawful in
       let itself = u .0 .itself in
       record {
         sizes = fitting;
         rounds = h;
         outcome = (
           ok .steps .0,
-          omega (arith, order, in-whole-units t plan gap y (u .0) plan itself, minus (costOf t plan) gap),
-          omega (arith, order, ok .wanted .1, g .1),
+          gap-nonneg s plan y b gap j,
+          omega (arith, order, ok .wanted .1, g .wanted),
           record { long = itself .long; within = plan-within t ok plan itself },
-          g .2,
+          record { long = g .long; within = multipliers-bounded y (g .ranged) },
         );
       }
   answer-fits (Impossible rounds) plan y j u h = record { sizes = fitting; rounds = h; outcome = rw j at (on-shown s y) }

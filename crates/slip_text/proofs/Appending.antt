@@ -13,14 +13,14 @@ use Rattle.slip_text.specs.Written.{Appended}
 abbrev pub stored : Text → ℕ → Text
 stored t b = record { bytes = set (t .bytes) (t .length) b; length = t .length + 1 }
 
-stored-is : (s : List ℕ) (b : ℕ) → length s < 160 → stored (textOf s) b ≡ textOf (s ++ (b ∷ []))
+stored-is : (s : List ℕ) (b : ℕ) → length s < 360 → stored (textOf s) b ≡ textOf (s ++ (b ∷ []))
 unfolding textOf
 stored-is s b h =
-    let rest : List ℕ = replicate (160 - (length s + 1)) 0 in
-    let k : 160 - length s ≡ suc (160 - (length s + 1)) = omega arith in
+    let rest : List ℕ = replicate (360 - (length s + 1)) 0 in
+    let k : 360 - length s ≡ suc (360 - (length s + 1)) = omega arith in
     rw (k, set-append-seam s 0 rest b, length-append s (b ∷ []), append-assoc s (b ∷ []) rest)
 
-pub appended-byte : {t r : Text} {b : ℕ} → t .length < 160 → r ≡ stored t b → Appended t (b ∷ []) 1 r
+pub appended-byte : {t r : Text} {b : ℕ} → t .length < 360 → r ≡ stored t b → Appended t (b ∷ []) 1 r
 unfolding textOf
 appended-byte {b = b} h e =
     record { holds = λ s k. record { is = (rw (k .is) at e) ∙ stored-is s b (rw (k .is) at h) }; longer = rw e (omega arith) }
@@ -47,6 +47,6 @@ unfolding textOf
 lendable s e =
     rw e
     (record {
-      inside = rw (length-append s (replicate (160 - length s) 0)) (omega arith);
-      counted = ap length (sym (take-append-seam s (replicate (160 - length s) 0)));
+      inside = rw (length-append s (replicate (360 - length s) 0)) (omega arith);
+      counted = ap length (sym (take-append-seam s (replicate (360 - length s) 0)));
     })

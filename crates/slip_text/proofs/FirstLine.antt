@@ -1,26 +1,23 @@
--- The duties of the slip's first line, as the code appends them.
+-- What is written for the first duties, as the code appends it.
 use Prim.Native.Nat.{ℕ, zero, suc}
 use mathlib.Core.Path.{_≡_, refl}
-use mathlib.Core.Bool.{Bool, cond}
-use mathlib.Core.List.{List, [], _++_}
+use mathlib.Core.Bool.{cond}
+use mathlib.Core.List.{List, [], _∷_, _++_}
 use native.Mathlib.Omega.{arith}
 use lib.Dec.{ltb}
-use lib.IntN.{ℤ}
+use lib.ListN.{take}
 use lib.Seq.{take-nil}
 use borrow.Author.Tests.{lt-ltb}
-use Rattle.solver.specs.declared.Duties.{Duties}
-use Rattle.slip_text.specs.Slip.{blankAnd, spaced, duties}
+use Rattle.slip_text.specs.Slip.{each}
 
--- a duty where it is one of the m
-abbrev due : Bool → ℤ → List ℕ
-due is duty = cond is (blankAnd duty) []
-
-pub four-duties : (m : ℕ) (first : Duties) →
-    due (ltb 0 m) (first .u0) ++ (due (ltb 1 m) (first .u1) ++ (due (ltb 2 m) (first .u2) ++ (due (ltb 3 m) (first .u3) ++ []))) ≡ spaced (duties m first)
-four-duties zero first = refl
-four-duties (suc zero) first = refl
-four-duties (suc (suc zero)) first = refl
-four-duties (suc (suc (suc zero))) first = refl
-four-duties (suc (suc (suc (suc m)))) first =
+-- each where it is one of the m
+pub four-each : {A : Type 0} (f : A → List ℕ) (m : ℕ) (a b c d : A) →
+    cond (ltb 0 m) (f a) [] ++ (cond (ltb 1 m) (f b) [] ++ (cond (ltb 2 m) (f c) [] ++ (cond (ltb 3 m) (f d) [] ++ [])))
+    ≡ each f (take m (a ∷ b ∷ c ∷ d ∷ []))
+four-each f zero a b c d = refl
+four-each f (suc zero) a b c d = refl
+four-each f (suc (suc zero)) a b c d = refl
+four-each f (suc (suc (suc zero))) a b c d = refl
+four-each {A} f (suc (suc (suc (suc m)))) a b c d =
     let n = suc (suc (suc (suc m))) in
-    rw (lt-ltb 0 n (omega arith), lt-ltb 1 n (omega arith), lt-ltb 2 n (omega arith), lt-ltb 3 n (omega arith), take-nil {A = ℤ} m)
+    rw (lt-ltb 0 n (omega arith), lt-ltb 1 n (omega arith), lt-ltb 2 n (omega arith), lt-ltb 3 n (omega arith), take-nil {A = A} m)

@@ -4,10 +4,11 @@ mod text;
 
 pub use text::Text;
 ghost use mathlib.Core.Path.{_≡_};
-ghost use Rattle.slip_text.specs.Slip.{slip, tapeSlip, textOf};
+ghost use Rattle.slip_text.specs.Slip.{tapeSlip, textOf};
 use crate::lines::kind_and_rounds;
 use crate::lines::proved;
 use crate::lines::refused;
+use ranges::first_ranges;
 use solution::solve_tape;
 use solver::Solved;
 
@@ -18,15 +19,13 @@ pub fn tape_slip(tape: &[u8]) -> Text
     let solution = solve_tape(tape);
     let answer = solution.answer;
     let numbers = solution.tape;
-    slip_of(answer, numbers.m)
-}
-
-// The slip of an answer, for m inputs.
-pub fn slip_of(answer: Solved, m: usize) -> Text
-    ensures { λ r. ⌜ r ≡ textOf (slip answer m) ⌝ }
-{
+    let multipliers = solution.multipliers;
     match answer {
-        Solved::Proved(rounds, gap, first) => proved(rounds, gap, first, m),
+        Solved::Proved(rounds, gap, first) => {
+            let q = numbers.horizon * numbers.n;
+            let ranges = first_ranges(numbers, &multipliers[..q], gap);
+            proved(rounds, gap, first, ranges, numbers.m)
+        }
         Solved::Impossible(rounds) => kind_and_rounds(b"impossible\n", rounds),
         Solved::Refused(why) => refused(why),
     }

@@ -5,10 +5,11 @@ ghost use mathlib.Core.List.{_++_, []};
 ghost use lib.ListN.{length};
 ghost use Rattle.tape.specs.declared.refusal.Carried.{Carried};
 ghost use Rattle.tape.specs.Refusals.{row};
-ghost use Rattle.solver.specs.declared.Solved.{Solved};
-ghost use Rattle.slip_text.specs.Slip.{roundsLine, gapLine, blankAnd, firstLine, refusedNumber, refusalLines, slip};
+ghost use Rattle.slip_text.specs.Slip.{roundsLine, gapLine, blankAnd, firstLine, rangeLine, rangeLines, provedLines, refusedNumber, refusalLines};
 ghost use Rattle.slip_text.specs.Written.{Holds, Appended};
 use crate::text::Text;
+use ranges::Ranges;
+use ranges::range::Range;
 use solver::Duties;
 use tape::refusal::Carried;
 use tape::refusal::Refusal;
@@ -16,7 +17,7 @@ use tape::refusal::carries;
 use tape::refusal::number;
 
 fn with_rounds(text: Text, rounds: usize) -> Text
-    requires { ⌜ text .length + 28 ≤ 160 ⌝ }
+    requires { ⌜ text .length + 28 ≤ 360 ⌝ }
     ensures { λ r. ⌜ Appended text (roundsLine rounds) 28 r ⌝ }
 {
     let named = text.with_word(b"rounds ");
@@ -25,7 +26,7 @@ fn with_rounds(text: Text, rounds: usize) -> Text
 }
 
 fn with_gap(text: Text, gap: i64) -> Text
-    requires { ⌜ text .length + 26 ≤ 160 ⌝ }
+    requires { ⌜ text .length + 26 ≤ 360 ⌝ }
     ensures { λ r. ⌜ Appended text (gapLine gap) 26 r ⌝ }
 {
     let named = text.with_word(b"gap ");
@@ -35,7 +36,7 @@ fn with_gap(text: Text, gap: i64) -> Text
 
 // A blank and the duty, where it is one of the m.
 fn with_duty(text: Text, duty: i32, due: bool) -> Text
-    requires { ⌜ text .length + 22 ≤ 160 ⌝ }
+    requires { ⌜ text .length + 22 ≤ 360 ⌝ }
     ensures { λ r. ⌜ Appended text (cond due (blankAnd duty) []) 22 r ⌝ }
 {
     if due {
@@ -46,7 +47,7 @@ fn with_duty(text: Text, duty: i32, due: bool) -> Text
 }
 
 fn with_first(text: Text, first: Duties, m: usize) -> Text
-    requires { ⌜ text .length + 94 ≤ 160 ⌝ }
+    requires { ⌜ text .length + 94 ≤ 360 ⌝ }
     ensures { λ r. ⌜ Appended text (firstLine m first) 94 r ⌝ }
 {
     let named = text.with_word(b"first");
@@ -55,6 +56,31 @@ fn with_first(text: Text, first: Duties, m: usize) -> Text
     let three = with_duty(two, first.u2, 2 < m);
     let four = with_duty(three, first.u3, 3 < m);
     four.with_word(b"\n")
+}
+
+// A line with the two ends, where the duty is one of the m.
+fn with_range(text: Text, range: Range, due: bool) -> Text
+    requires { ⌜ text .length + 50 ≤ 360 ⌝ }
+    ensures { λ r. ⌜ Appended text (cond due (rangeLine range) []) 50 r ⌝ }
+{
+    if due {
+        let named = text.with_word(b"range ");
+        let from = named.with_signed(range.low);
+        let blank = from.with_word(b" ");
+        let to = blank.with_signed(range.high);
+        return to.with_word(b"\n");
+    }
+    text
+}
+
+fn with_ranges(text: Text, ranges: Ranges, m: usize) -> Text
+    requires { ⌜ text .length + 200 ≤ 360 ⌝ }
+    ensures { λ r. ⌜ Appended text (rangeLines m ranges) 200 r ⌝ }
+{
+    let one = with_range(text, ranges.u0, 0 < m);
+    let two = with_range(one, ranges.u1, 1 < m);
+    let three = with_range(two, ranges.u2, 2 < m);
+    with_range(three, ranges.u3, 3 < m)
 }
 
 pub fn kind_and_rounds(kind: &[u8], rounds: usize) -> Text
@@ -67,12 +93,13 @@ pub fn kind_and_rounds(kind: &[u8], rounds: usize) -> Text
     with_rounds(named, rounds)
 }
 
-pub fn proved(rounds: usize, gap: i64, first: Duties, m: usize) -> Text
-    ensures { λ r. ⌜ Holds r (slip (Solved.Proved rounds gap first) m) ⌝ }
+pub fn proved(rounds: usize, gap: i64, first: Duties, ranges: Ranges, m: usize) -> Text
+    ensures { λ r. ⌜ Holds r (provedLines rounds gap first ranges m) ⌝ }
 {
     let entered = kind_and_rounds(b"proved\n", rounds);
     let bounded = with_gap(entered, gap);
-    with_first(bounded, first, m)
+    let set = with_first(bounded, first, m);
+    with_ranges(set, ranges, m)
 }
 
 fn refused_number(number: usize) -> Text

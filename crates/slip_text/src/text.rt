@@ -9,7 +9,7 @@ use integer::number::size;
 
 // The first bytes, as many as the length, are the text; the others are 0.
 pub struct Text {
-    pub bytes: [u8; 160],
+    pub bytes: [u8; 360],
     pub length: usize,
 }
 
@@ -17,7 +17,7 @@ impl Text {
     pub(crate) fn empty() -> Text
         ensures { λ r. ⌜ (r .length ≡ 0) × Holds r [] ⌝ }
     {
-        let bytes = [0u8; 160];
+        let bytes = [0u8; 360];
         Text {
             bytes: bytes,
             length: 0,
@@ -25,7 +25,7 @@ impl Text {
     }
 
     fn with_byte(mut self, b: u8) -> Text
-        requires { ⌜ self .length < 160 ⌝ }
+        requires { ⌜ self .length < 360 ⌝ }
         ensures { λ r. ⌜ Appended self (b ∷ []) 1 r ⌝ }
     {
         let at = self.length;
@@ -35,7 +35,7 @@ impl Text {
     }
 
     pub(crate) fn with_word(self, word: &[u8]) -> Text
-        requires { ⌜ self .length + length (now word) ≤ 160 ⌝ }
+        requires { ⌜ self .length + length (now word) ≤ 360 ⌝ }
         ensures { λ r. ⌜ Appended self (now (word .entry)) (length (now (word .entry))) r ⌝ }
     {
         let mut text = self;
@@ -49,7 +49,7 @@ impl Text {
 
     // The digits of x / 10, then the last one.
     fn with_digits(self, x: u64) -> Text
-        requires { ⌜ self .length + length (decimal x) ≤ 160 ⌝ }
+        requires { ⌜ self .length + length (decimal x) ≤ 360 ⌝ }
         ensures { λ r. ⌜ Appended self (decimal x) (length (decimal x)) r ⌝ }
     {
         if x < 10 {
@@ -60,14 +60,14 @@ impl Text {
     }
 
     pub(crate) fn with_number(self, x: u64) -> Text
-        requires { ⌜ self .length + 20 ≤ 160 ⌝ }
+        requires { ⌜ self .length + 20 ≤ 360 ⌝ }
         ensures { λ r. ⌜ Appended self (decimal x) 20 r ⌝ }
     {
         self.with_digits(x)
     }
 
     pub(crate) fn with_signed(self, x: i64) -> Text
-        requires { ⌜ self .length + 21 ≤ 160 ⌝ }
+        requires { ⌜ self .length + 21 ≤ 360 ⌝ }
         ensures { λ r. ⌜ Appended self (signedDecimal x) 21 r ⌝ }
     {
         if x < 0 {

@@ -1,3 +1,4 @@
 -- Laws behind the proofs.
 pub mod Promise
 pub mod TapeSizes
+pub mod Proved

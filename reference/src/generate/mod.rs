@@ -1,15 +1,16 @@
-//! Tapes, plans, multipliers, entries and models made from a seed, the same for the same seed on
-//! every machine.
+//! Tapes, plans, multipliers, entries, models and duties made from a seed, the same for the same seed
+//! on every machine.
 //!
 //! [`tape`] gives a tape; [`case`] gives the same tape with slices to lend to the calls.
 //! [`given()`] gives a tape that lacks required places or does not. [`entries()`] and [`models()`]
-//! give what is to be imported. [`records`] has furnaces whose records have present numbers that
-//! look absent.
+//! give what is to be imported, [`duties()`] columns with slopes and gaps. [`records`] has furnaces
+//! whose records have present numbers that look absent.
 
 mod ceilings;
 pub mod commands;
 pub mod curves;
 pub mod damage;
+pub mod duties;
 pub mod entries;
 pub mod faulty;
 pub mod furnaces;
@@ -22,6 +23,7 @@ pub mod rare;
 pub mod records;
 mod weights;
 
+pub use duties::Duty;
 pub use entries::{EntryKind, GeneratedEntry};
 pub use given::GivenTape;
 pub use lent::Lent;
@@ -135,6 +137,15 @@ pub fn entries(seed: u64) -> Vec<GeneratedEntry> {
 pub fn models(seed: u64) -> Vec<Model> {
     let mut random = Random::new(seed);
     (0..MODELS).map(|_| models::any(&mut random)).collect()
+}
+
+/// How many duties a seed has.
+pub const DUTIES: usize = 10;
+
+/// The duties of a seed.
+pub fn duties(seed: u64) -> Vec<Duty> {
+    let mut random = Random::new(seed);
+    (0..DUTIES).map(|_| duties::any(&mut random)).collect()
 }
 
 /// The kind of a seed's tape, which is not made for it.

@@ -12,6 +12,7 @@ pub fn refused(tape: &[u8], number: u32, offset: usize) {
         (number, Some(offset))
     );
     assert_eq!(judge_plan(tape, &[], &[]), Err(refusal));
+    assert_eq!(ranges(tape, &[], &[]), Err(refusal));
     assert_eq!(judge_multipliers(tape, &[i32::MAX]), Err(refusal));
     let (mut plan, mut multipliers) = ([1, 2, 3], [4]);
     let solved = solve(tape, &mut plan, &mut multipliers);

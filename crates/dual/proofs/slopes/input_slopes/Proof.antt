@@ -1,14 +1,12 @@
-use Prim.Native.Nat.{_+_, _*_, _-_, _≤_}
-use mathlib.Core.Path.{_≡_}
+use Prim.Native.Nat.{_*_, _-_, _≤_}
+use mathlib.Core.Path.{_≡_, _∙_}
 use native.Mathlib.Omega.{arith}
-use denote.Ref.{now}
 use borrow.Author.Needs.{needs}
 use Rattle.integer.specs.Places.{Stretch}
-use Rattle.integer.proofs.Sizes.{wider}
+use Rattle.integer.proofs.Sizes.{called}
 use Rattle.integer.proofs.Places.{stretch-none, stretch-store}
 use Rattle.problem.specs.Dual.{inputSlope}
 use Rattle.primal.specs.Padded.{inputMatrix, padded}
-use Rattle.primal.proofs.ProductSizes.{dotted}
 use Rattle.dual.proofs.slopes.input_slopes.Statement.{statement}
 use Rattle.dual.proofs.slopes.input_slopes.Tie as tie
 
@@ -21,22 +19,17 @@ abbrev μ-loop : tie.MeasureT-loop
 loop-holds : tie.Need-loop-holds Inv-loop μ-loop
 loop-holds c = (omega arith, stretch-none _ _ _)
 
-mul-dot : tie.Need-mul-dot Inv-loop μ-loop
-mul-dot c = search needs
+input-slope-at-requires : tie.Need-input-slope-at-requires Inv-loop μ-loop
+input-slope-at-requires c κs = search needs
 
-dot-requires : tie.Need-dot-requires Inv-loop μ-loop
-dot-requires c κs =
-    let p = c .before .before .before .before .pre in
-    (omega arith, omega (arith, c .before .dot-arg .given), record { each = λ q h. omega (arith, c .dot-arg2 .given) }, p .3, wider (p .2) (omega arith))
+mul-t8 : tie.Need-mul-t8 Inv-loop μ-loop
+mul-t8 c = search needs
 
-mul-t13 : tie.Need-mul-t13 Inv-loop μ-loop
-mul-t13 c = search needs
+add-t9 : tie.Need-add-t9 Inv-loop μ-loop
+add-t9 c = search needs
 
-add-t14 : tie.Need-add-t14 Inv-loop μ-loop
-add-t14 c = search needs
-
-mul-t15 : tie.Need-mul-t15 Inv-loop μ-loop
-mul-t15 c = search needs
+mul-t10 : tie.Need-mul-t10 Inv-loop μ-loop
+mul-t10 c = search needs
 
 element-set-from-s : tie.Need-element-set-from-s Inv-loop μ-loop
 element-set-from-s c = search needs
@@ -48,14 +41,9 @@ loop-less : tie.Need-loop-less Inv-loop μ-loop
 loop-less c = search needs
 
 loop-again : tie.Need-loop-again Inv-loop μ-loop
-unfolding inputSlope
 loop-again c =
-    let s = c .before .before .before .before .before .args in
-    let l = c .before .before .before .before .loop in (
-      omega arith,
-      stretch-store _ _ _ _ _ _ (omega arith) (l .inv .1)
-          (dotted 6 (padded (now (s .y)) (s .k)) (now (s .b)) (λ q. 4 * q + l .j) (c .dot .ok) (c .dot .ensures) (λ q. omega arith)),
-    )
+    let f = c .input-slope-at in
+    (omega arith, stretch-store _ _ _ _ _ _ (omega arith) (c .before .before .loop .inv .1) (called (f .result) (f .ok) ∙ f .ensures))
 
 returns : tie.Need-returns Inv-loop μ-loop
 returns c = let e : c .before .loop .j ≡ 4 = omega arith in rw e at (c .before .loop .inv .1)
@@ -67,11 +55,10 @@ input-slopes-spec =
     Inv-loop
     μ-loop
     loop-holds
-    mul-dot
-    dot-requires
-    mul-t13
-    add-t14
-    mul-t15
+    input-slope-at-requires
+    mul-t8
+    add-t9
+    mul-t10
     element-set-from-s
     add-j
     loop-less

@@ -15,11 +15,16 @@ with-gap-requires c κs = search needs
 with-first-requires : tie.Need-with-first-requires
 with-first-requires c κs = search needs
 
+with-ranges-requires : tie.Need-with-ranges-requires
+with-ranges-requires c κs = search needs
+
 returns : tie.Need-returns
 returns c =
-    let k = c .before .before in
-    let gap = rw (toZ-ofZ (k .before .before .fits .gap)) at (c .before .with-gap .ensures) in
-    c .with-first .ensures .holds _ (gap .holds _ (k .kind-and-rounds .ensures .0))
+    let f = c .before in
+    let g = f .before in
+    let k = g .before in
+    let gap = rw (toZ-ofZ (k .before .before .fits .gap)) at (g .with-gap .ensures) in
+    c .with-ranges .ensures .holds _ (f .with-first .ensures .holds _ (gap .holds _ (k .kind-and-rounds .ensures .0)))
 
 pub proved-spec : {M : Type 1} → statement M
 proved-spec =
@@ -29,4 +34,5 @@ proved-spec =
     kind-and-rounds-requires
     with-gap-requires
     with-first-requires
+    with-ranges-requires
     returns)

@@ -6,8 +6,9 @@ use mir.Syntax.{w32}
 use mir.Val.{toZ, ofZ}
 use mir.Facts.{toZ-ofZ}
 use borrow.Author.Needs.{needs}
+use Rattle.slip_text.specs.Slip.{blankAnd}
 use Rattle.slip_text.proofs.Appending.{appended-none, appended-then}
-use Rattle.slip_text.proofs.FirstLine.{four-duties}
+use Rattle.slip_text.proofs.FirstLine.{four-each}
 use Rattle.slip_text.proofs.lines.with_first.Statement.{statement}
 use Rattle.slip_text.proofs.lines.with_first.Tie as tie
 
@@ -52,7 +53,7 @@ returns c =
     let last = appended-then (three .with-duty3 .ensures) (appended-then (four .with-duty4 .ensures) (appended-none _)) in
     let all = simp (read (d .u0) (r .0 .1), read (d .u1) (r .1 .0 .1), read (d .u2) (r .1 .1 .0 .1), read (d .u3) (r .1 .1 .1 .0 .1)) at
     (appended-then (one .with-duty .ensures) (appended-then (two .with-duty2 .ensures) last)) in
-    rw (sym (four-duties (a .m) d)) (appended-then (appended-then (word .with-word .ensures) all) (c .with-word2 .ensures))
+    rw (sym (four-each blankAnd (a .m) (d .u0) (d .u1) (d .u2) (d .u3))) (appended-then (appended-then (word .with-word .ensures) all) (c .with-word2 .ensures))
 
 pub with-first-spec : {M : Type 1} → statement M
 with-first-spec =

@@ -38,7 +38,7 @@ static inline size_t read_bytes(const char *name, uint8_t *bytes, size_t room)
 static inline void print_refused(uint64_t code)
 {
     unsigned number = FIBERGRAVEL_REFUSAL(code);
-    if (number <= FIBERGRAVEL_OVERRUN)
+    if (number <= FIBERGRAVEL_OVERRUN || number == FIBERGRAVEL_WEIGHTLESS)
         printf("refused %u at %" PRIu64 "\n", number, FIBERGRAVEL_CARRIED(code));
     else
         printf("refused %u\n", number);

@@ -1,7 +1,8 @@
 /*
  * Holds the calls to the stack that the header states: each runs on a thread whose whole stack has
  * FIBERGRAVEL_STACK bytes, above a page that ends the program where it is touched. Prints how many of
- * them each thread used, its own start included; the thread `nothing` makes no call.
+ * them each thread used, its own start included; the thread `nothing` makes no call. They get a tape of
+ * the largest sizes that is made here, and then those of the files.
  *
  *     rt staticlib planner
  *     cc -Iinclude -pthread examples/stack.c target/staticlib/libplanner.a -o stack
@@ -30,6 +31,9 @@ static uint8_t laboratory[FIBERGRAVEL_LABORATORY_LENGTH], service[FIBERGRAVEL_MO
 static int64_t kind[FIBERGRAVEL_RECORD_LENGTH], entry[FIBERGRAVEL_IMPORT_ENTRY_LENGTH];
 static double leftover[FIBERGRAVEL_IMPORT_LEFTOVER_LENGTH];
 static uint8_t model[FIBERGRAVEL_MOST_MODEL];
+static int64_t residuals[FIBERGRAVEL_MOST_MULTIPLIERS];
+static double pivots[FIBERGRAVEL_MOST_MULTIPLIERS], correction[FIBERGRAVEL_MOST_MULTIPLIERS];
+static int64_t step[FIBERGRAVEL_READ_STEP_LENGTH], shown[FIBERGRAVEL_BANDED_CORRECTION_LENGTH];
 static size_t tape_len, plan_len, multipliers_len, service_len;
 
 /* A model of the largest sizes, near whole numbers. */
@@ -53,6 +57,12 @@ static void *read_tape(void *unused)
 static void *read_references(void *unused)
 {
     fibergravel_read_references(tape, tape_len, references);
+    return unused;
+}
+
+static void *read_step(void *unused)
+{
+    fibergravel_read_step(tape, tape_len, step);
     return unused;
 }
 
@@ -102,6 +112,13 @@ static void *judge_multipliers(void *unused)
     return unused;
 }
 
+static void *banded_correction(void *unused)
+{
+    fibergravel_banded_correction(tape, tape_len, residuals, multipliers_len, pivots, multipliers_len, correction,
+                                  multipliers_len, shown);
+    return unused;
+}
+
 static void *import_entry(void *unused)
 {
     fibergravel_import_entry(a[0], entry, leftover);
@@ -121,6 +138,7 @@ static const struct {
     { "nothing", nothing },
     { "read", read_tape },
     { "read_references", read_references },
+    { "read_step", read_step },
     { "solve", solve },
     { "record", record },
     { "judge_plan", judge_plan },
@@ -128,6 +146,7 @@ static const struct {
     { "judge_fault", judge_fault },
     { "ranges", ranges },
     { "judge_multipliers", judge_multipliers },
+    { "banded_correction", banded_correction },
     { "import_entry", import_entry },
     { "import_model", import_model },
 };
@@ -171,9 +190,9 @@ static size_t bytes_used(uint8_t *stack, void *(*body)(void *))
     return FIBERGRAVEL_STACK - unused;
 }
 
-static void read_file(const char *name)
+/* Reads the tape in memory, and sets the lengths that it asks for. */
+static void set_lengths(void)
 {
-    tape_len = read_bytes(name, tape, sizeof tape);
     memset(numbers, 0, sizeof numbers);
     fibergravel_read(tape, tape_len, numbers);
     multipliers_len = (size_t)(numbers[FIBERGRAVEL_STEPS] * numbers[FIBERGRAVEL_STATES]);
@@ -189,18 +208,59 @@ static void make_model(void)
         b[i] = 0.1 * (i - M);
 }
 
+/* The residuals of every row. */
+static void make_residuals(void)
+{
+    for (int i = 0; i < FIBERGRAVEL_MOST_MULTIPLIERS; i++)
+        residuals[i] = (i % 3 - 1) * (FIBERGRAVEL_MOST_RESIDUAL - i);
+}
+
+/* Adds bytes to the tape in memory. */
+static void add(const uint8_t *bytes, size_t count)
+{
+    memcpy(tape + tape_len, bytes, count);
+    tape_len += count;
+}
+
+/* Makes a tape of the largest sizes with command 51: each state is heated by the next one and by a heater,
+   and starts at 100. Limits are -10,000 to 10,000, references 0 and weights 1. */
+static void make_tape(void)
+{
+    add((uint8_t[]){ 0x10, N, M, FIBERGRAVEL_MOST_STEPS }, 4);
+    for (uint8_t i = 0; i < N; i++) {
+        add((uint8_t[]){ 0x20, i, i, 0x00, 0x08 }, 5);
+        add((uint8_t[]){ 0x20, i, (uint8_t)((i + 1) % N), 0x00, 0x04 }, 5);
+        add((uint8_t[]){ 0x21, i, i % M, 0x00, 0x04 }, 5);
+        add((uint8_t[]){ 0x40, i, 100, 0 }, 4);
+    }
+    for (uint8_t c = 0; c < N + M; c++)
+        add((uint8_t[]){ 0x30, c, 0xF0, 0xD8, 0x10, 0x27, 0, 0, 1 }, 9);
+    /* g 1, R 1,000, T 10,000,000: proved in the second round. */
+    add((uint8_t[]){ 0x51, 1, 0, 0xE8, 0x03, 0x80, 0x96, 0x98, 0x00, 0xFF }, 10);
+}
+
+/* Runs all threads on the tape in memory, and keeps the most that each has used. */
+static void measure(uint8_t *stack, size_t most[])
+{
+    set_lengths();
+    for (int t = 0; t < THREADS; t++) {
+        size_t used = bytes_used(stack, threads[t].body);
+        if (used > most[t])
+            most[t] = used;
+    }
+}
+
 int main(int argc, char **argv)
 {
     uint8_t *stack = stack_memory();
     size_t most[THREADS] = { 0 };
     make_model();
+    make_residuals();
+    make_tape();
+    measure(stack, most);
     for (int i = 1; i < argc; i++) {
-        read_file(argv[i]);
-        for (int t = 0; t < THREADS; t++) {
-            size_t used = bytes_used(stack, threads[t].body);
-            if (used > most[t])
-                most[t] = used;
-        }
+        tape_len = read_bytes(argv[i], tape, sizeof tape);
+        measure(stack, most);
     }
     printf("bytes of stack used, of %d:", FIBERGRAVEL_STACK);
     for (int t = 0; t < THREADS; t++)

@@ -2,7 +2,8 @@
  * Fibergravel: the planning core of a sinter furnace. It reads a furnace tape, judges plans and
  * multipliers that it is shown, says where a plan fails and how different the first duties of one as cheap
  * can be, works out a plan with a proved gap, writes the record of a firing for the laboratory and for the
- * service, and turns a model in floats into commands of a tape. docs/TAPE.md has the tape's format.
+ * service, shows the floats of a banded step, and turns a model in floats into commands of a tape.
+ * docs/TAPE.md has the tape's format.
  *
  * Link with libplanner.a, which `rt staticlib planner` writes to target/staticlib/. It is compiled for
  * x86-64 Linux, and needs memcpy and memset from outside and nothing else.
@@ -14,9 +15,9 @@
  * Memory. The caller owns all of it: the calls allocate nothing, keep no pointer and have no state
  * between them. So they may run on several threads at once, as long as no memory that one of them
  * writes is read or written by another at that time. What a call writes (`out`; plan and multipliers
- * of fibergravel_solve; laboratory and service of fibergravel_record; leftover of
- * fibergravel_import_entry) overlaps nothing else that is passed to it. Lengths count elements. Pointers
- * are aligned as their type asks, no more.
+ * of fibergravel_solve; laboratory and service of fibergravel_record; pivots and correction of
+ * fibergravel_banded_correction; leftover of fibergravel_import_entry) overlaps nothing else that is passed
+ * to it. Lengths count elements. Pointers are aligned as their type asks, no more.
  *
  * NULL is never allowed, also not with length 0. In C++ the data() of an empty std::vector or
  * std::span may be NULL: pass the address of any object of that type in its place, with length 0.
@@ -26,9 +27,11 @@
  * most the tape's R rounds, at most FIBERGRAVEL_MOST_ROUNDS, and the work of a round is bounded by the
  * tape's sizes. The other calls have no rounds.
  *
- * Floats. A double is a 64-bit float of IEEE 754, and any of them may be passed. The import calls expect
- * the processor's usual mode for floats, which rounds to nearest, keeps subnormals and does not trap; a
- * program that is linked with -ffast-math may start in another one.
+ * Floats. A double is a 64-bit float of IEEE 754, and any of them may be passed. The import calls,
+ * fibergravel_banded_correction, and fibergravel_solve and fibergravel_record on a tape with command 51
+ * expect the processor's usual mode for floats, which rounds to nearest, keeps subnormals and does not
+ * trap; a program that is linked with -ffast-math may start in another one. A NaN that a call writes may
+ * have any of the bits of a NaN.
  *
  * Results. Each call returns 0 where it has a result, which is then in what it writes. Otherwise it
  * returns a refusal, and then no lent number has changed, those of `out` included. FIBERGRAVEL_REFUSAL
@@ -38,6 +41,12 @@
  * Plan and multipliers. n states, m inputs and N steps are the tape's. A plan has N * (n + m) numbers:
  * u(0), x(1), u(1), x(2) and so on, for each step its m inputs and then its n states. Multipliers are
  * N * n numbers, n for each step.
+ *
+ * Step. A round ends with a step from its multipliers to the next ones. With command 50 the step is e * g,
+ * for each residual e, with the tape's g. With command 51, which has the operands of 50, it is the banded
+ * step: d, where W * d = e is solved in floats for all residuals together. W has N * n rows, by step and
+ * then state, and depends on the tape alone. Where rounding leaves a pivot of it that is not finite or not
+ * above 0, the tape falls back on g. What a gap, 'proved' or 'impossible' says does not depend on the step.
  *
  * Rivals. A plan that is judged or worked out is in whole units. A rival of it may lie between them: its
  * numbers are whole multiples of 1/D, for any whole D from 1, each lies in its limits, and each state is
@@ -58,9 +67,10 @@ extern "C" {
    came curves, with 1.2 the imports, with 1.3 weights of 0, with 1.4 the record, with 1.5 the report, with
    1.6 rivals between whole units: for the same plan and multipliers a gap is the same as before or wider,
    by at most one for each number of the plan, and what follows from gaps has moved with them; with 1.7 the
-   ranges. */
+   ranges; with 1.8 the banded step: command 51, and refusal 18, which every call that takes a tape may
+   give; FIBERGRAVEL_STACK, which was 65536 from 1.1 on, is larger since. */
 #define FIBERGRAVEL_VERSION_MAJOR 1
-#define FIBERGRAVEL_VERSION_MINOR 7
+#define FIBERGRAVEL_VERSION_MINOR 8
 #define FIBERGRAVEL_VERSION (100 * FIBERGRAVEL_VERSION_MAJOR + FIBERGRAVEL_VERSION_MINOR)
 
 /* The number of a refusal, and what it carries. */
@@ -75,11 +85,14 @@ enum {
     FIBERGRAVEL_MOST_ROUNDS = 10000,
     FIBERGRAVEL_MOST_TAPE = 1064,       /* bytes of an accepted tape */
     FIBERGRAVEL_MOST_PLAN = 120,        /* numbers of a plan */
-    FIBERGRAVEL_MOST_MULTIPLIERS = 72,  /* numbers of multipliers */
+    FIBERGRAVEL_MOST_MULTIPLIERS = 72,  /* numbers of multipliers, residuals, pivots and a correction */
     FIBERGRAVEL_MOST_SERVICE = 787,     /* bytes of a record for the service */
     FIBERGRAVEL_MOST_MODEL = 300,       /* bytes of an imported model: 5 for each entry */
-    FIBERGRAVEL_STACK = 65536           /* bytes of a stack that has room for a call */
+    FIBERGRAVEL_STACK = 131072          /* bytes of a stack that has room for a call */
 };
+
+/* The largest size of a residual that is passed to fibergravel_banded_correction. */
+#define FIBERGRAVEL_MOST_RESIDUAL ((int64_t)1 << 40)
 
 /* The refusals. */
 enum {
@@ -89,9 +102,14 @@ enum {
     FIBERGRAVEL_MISPLACED = 3,      /* the first command is not 10, or there is a second 10 */
     FIBERGRAVEL_NO_SUCH_PLACE = 4,  /* an index outside the size */
     FIBERGRAVEL_OUT_OF_RANGE = 5,   /* an operand outside its range, or lo > hi. Of
-                                       fibergravel_import_model: n or m outside its range, carrying 0 */
-    FIBERGRAVEL_TWICE = 6,          /* the same place, a column's step included, or command 50, given again */
+                                       fibergravel_import_model: n or m outside its range, carrying 0.
+                                       Of fibergravel_banded_correction also: a residual beyond
+                                       FIBERGRAVEL_MOST_RESIDUAL in size, carrying 0, as does a command
+                                       10 with such an operand; fibergravel_read refuses that one too */
+    FIBERGRAVEL_TWICE = 6,          /* the same place, a column's step included, given again, or a
+                                       command 50 or 51 after either */
     FIBERGRAVEL_ABSENT = 7,         /* at FF, something required was not given, or a curve lacks a step */
+    FIBERGRAVEL_WEIGHTLESS = 18,    /* at FF, a weight is 0 on a tape with command 51; after 7, before 8 */
     FIBERGRAVEL_OVERRUN = 8,        /* bytes after FF: the offset after FF */
 
     /* These carry 0. fibergravel_judge_report does not refuse 10, 11 and 13: there they are kinds of a
@@ -129,7 +147,7 @@ enum {
                                        weight 0 */
     FIBERGRAVEL_WEIGHT = 99,        /* 10: h, 0 for a column without a target */
     FIBERGRAVEL_START = 109,        /* 6: x(0) */
-    FIBERGRAVEL_GAIN = 115,         /* g */
+    FIBERGRAVEL_GAIN = 115,         /* g, with command 51 used only where the tape falls back on it */
     FIBERGRAVEL_ROUNDS = 116,       /* R */
     FIBERGRAVEL_WANTED = 117,       /* T */
     FIBERGRAVEL_READ_LENGTH = 118
@@ -140,6 +158,16 @@ enum {
     FIBERGRAVEL_REFERENCES = 0,         /* 120: the reference of column c in step k at 12 * c + k */
     FIBERGRAVEL_REFERENCE_MARKS = 120,  /* 120: 1 where it is given, else 0, in the same order */
     FIBERGRAVEL_READ_REFERENCES_LENGTH = 240
+};
+
+/* How many numbers the out of fibergravel_read_step and that of fibergravel_banded_correction have, and the
+   two steps that they tell apart. */
+enum {
+    FIBERGRAVEL_READ_STEP_LENGTH = 1,
+    FIBERGRAVEL_BANDED_CORRECTION_LENGTH = 1,
+
+    FIBERGRAVEL_STEP_GAIN = 0,
+    FIBERGRAVEL_STEP_BANDED = 1
 };
 
 /* How many numbers fibergravel_judge_plan's out has. */
@@ -223,7 +251,7 @@ enum {
 
 /*
  * Reads a tape. out holds each number of the tape but those of its curves, 0 where the tape gives none
- * and beyond its sizes. Refusals 1 to 8.
+ * and beyond its sizes. Refusals 1 to 8 and 18.
  */
 uint64_t fibergravel_read(const uint8_t *tape, size_t tape_len, int64_t out[FIBERGRAVEL_READ_LENGTH]);
 
@@ -231,14 +259,21 @@ uint64_t fibergravel_read(const uint8_t *tape, size_t tape_len, int64_t out[FIBE
  * Reads a tape's curves. A column has one where command 31 gives its references, one for each of the N
  * steps; where it has none, r is its reference in all of them. Step k covers u(k) and x(k + 1). out holds
  * the references of command 31 and their marks, 0 where none is given and beyond the sizes.
- * Refusals 1 to 8, as fibergravel_read has them.
+ * Refusals 1 to 8 and 18, as fibergravel_read has them.
  */
 uint64_t fibergravel_read_references(const uint8_t *tape, size_t tape_len,
                                      int64_t out[FIBERGRAVEL_READ_REFERENCES_LENGTH]);
 
 /*
+ * Reads which step a tape asks for. out holds 0 (FIBERGRAVEL_STEP_GAIN) where it has command 50, and 1
+ * (FIBERGRAVEL_STEP_BANDED) where it has 51, whether it falls back on g or not. Refusals 1 to 8 and 18, as
+ * fibergravel_read has them.
+ */
+uint64_t fibergravel_read_step(const uint8_t *tape, size_t tape_len, int64_t out[FIBERGRAVEL_READ_STEP_LENGTH]);
+
+/*
  * Judges a plan with multipliers. out holds the gap, at most T: the plan follows the tape, and no rival
- * costs less than its cost minus the gap. Refusals 1 to 13.
+ * costs less than its cost minus the gap. Refusals 1 to 13 and 18.
  */
 uint64_t fibergravel_judge_plan(const uint8_t *tape, size_t tape_len, const int32_t *plan, size_t plan_len,
                                 const int32_t *multipliers, size_t multipliers_len,
@@ -249,8 +284,8 @@ uint64_t fibergravel_judge_plan(const uint8_t *tape, size_t tape_len, const int3
  * accepted plan; the place of a number that is off the model or over a limit, what is found there and
  * what was due; or cost and floor, where the gap is above T. The place is the first that fails, step by
  * step, the inputs of a step before its states: every number before it passes its tests, and no plan with
- * the same numbers up to and including it is accepted, whatever the multipliers. Refusals 1 to 9 and 12,
- * as fibergravel_judge_plan has them.
+ * the same numbers up to and including it is accepted, whatever the multipliers. Refusals 1 to 9, 12 and
+ * 18, as fibergravel_judge_plan has them.
  */
 uint64_t fibergravel_judge_report(const uint8_t *tape, size_t tape_len, const int32_t *plan, size_t plan_len,
                                   const int32_t *multipliers, size_t multipliers_len,
@@ -266,7 +301,7 @@ uint64_t fibergravel_judge_report(const uint8_t *tape, size_t tape_len, const in
  * that every plan as cheap sets this heater nearly alike. A wide one does not settle it: there may be a
  * plan as cheap with quite another duty, or none. Before rounding, a range is at most
  * 2 * sqrt(gap / (4096 * h)) wide, with h the input's weight from 1 on, and the gap is at most T.
- * Refusals 1 to 13, as fibergravel_judge_plan has them.
+ * Refusals 1 to 13 and 18, as fibergravel_judge_plan has them.
  */
 uint64_t fibergravel_ranges(const uint8_t *tape, size_t tape_len, const int32_t *plan, size_t plan_len,
                             const int32_t *multipliers, size_t multipliers_len,
@@ -274,7 +309,7 @@ uint64_t fibergravel_ranges(const uint8_t *tape, size_t tape_len, const int32_t 
 
 /*
  * Judges multipliers for impossibility. 0 is 'shown': there is no rival, and so no plan follows the tape.
- * Refusals 1 to 9, 12 and 14.
+ * Refusals 1 to 9, 12, 14 and 18.
  */
 uint64_t fibergravel_judge_multipliers(const uint8_t *tape, size_t tape_len, const int32_t *multipliers,
                                        size_t multipliers_len);
@@ -284,7 +319,7 @@ uint64_t fibergravel_judge_multipliers(const uint8_t *tape, size_t tape_len, con
  * 'Proved' (kind 1) fills plan and multipliers; fibergravel_judge_plan gives the same gap for them.
  * 'Impossible' (kind 2) fills the multipliers only, with which fibergravel_judge_multipliers shows it;
  * it has no gap and no u(0). Both slices have their full length at the call, whatever they hold.
- * Refusals 1 to 9 and 15.
+ * Refusals 1 to 9, 15 and 18.
  */
 uint64_t fibergravel_solve(const uint8_t *tape, size_t tape_len, int32_t *plan, size_t plan_len,
                            int32_t *multipliers, size_t multipliers_len, int64_t out[FIBERGRAVEL_SOLVE_LENGTH]);
@@ -297,10 +332,25 @@ uint64_t fibergravel_solve(const uint8_t *tape, size_t tape_len, int32_t *plan, 
  * has no gap, no duties and no plan. 'Open' (kind 3) has no multipliers either; it is no refusal here.
  * Rounds and sizes are in every record. Two records have the same 16 bytes where they agree in kind,
  * rounds, gap and duties, and only there; they have the same bytes for the service only where they are
- * equal. Refusals 1 to 9.
+ * equal. Refusals 1 to 9 and 18.
  */
 uint64_t fibergravel_record(const uint8_t *tape, size_t tape_len, uint8_t *laboratory, size_t laboratory_len,
                             uint8_t *service, size_t service_len, int64_t out[FIBERGRAVEL_RECORD_LENGTH]);
+
+/*
+ * Shows the floats of the banded step, for service, and for comparison bit by bit. residuals are e, one for
+ * each row of W, by step and then state, N * n numbers from -2^40 to 2^40; those of a round are among them.
+ * out holds 1 (FIBERGRAVEL_STEP_BANDED) where the tape's rounds take the banded step: pivots then holds the
+ * pivot of each row, finite and above 0, and correction the d of these residuals, both in the order of the
+ * rows. A d may be infinite or a NaN; a round adds 0 in its place. out holds 0 (FIBERGRAVEL_STEP_GAIN), and
+ * both slices are as they were, where the tape has command 50 or falls back on g. All three slices have
+ * N * n numbers at the call. Refusals 1 to 8 and 18; then 9; then 5, carrying 0, for a residual beyond its
+ * range.
+ */
+uint64_t fibergravel_banded_correction(const uint8_t *tape, size_t tape_len, const int64_t *residuals,
+                                       size_t residuals_len, double *pivots, size_t pivots_len,
+                                       double *correction, size_t correction_len,
+                                       int64_t out[FIBERGRAVEL_BANDED_CORRECTION_LENGTH]);
 
 /*
  * Imports one entry a of a model. Its number is the whole number nearest to 4096 * a, halves upward. out

@@ -1,4 +1,4 @@
-//! The ten calls with the numbers that they answer, one to one with C's.
+//! The twelve calls with the numbers that they answer, one to one with C's.
 //!
 //! Each answers 0 where it has a result, which is then in what it was lent to write; else the
 //! refusal's number + 256 × what it carries, and then nothing that was lent has changed.
@@ -9,6 +9,7 @@ mod foreign {
     extern "C" {
         pub fn fibergravel_read(tape: *const u8, tape_len: usize, out: *mut i64) -> u64;
         pub fn fibergravel_read_references(tape: *const u8, tape_len: usize, out: *mut i64) -> u64;
+        pub fn fibergravel_read_step(tape: *const u8, tape_len: usize, out: *mut i64) -> u64;
         pub fn fibergravel_judge_plan(
             tape: *const u8,
             tape_len: usize,
@@ -60,6 +61,17 @@ mod foreign {
             service_len: usize,
             out: *mut i64,
         ) -> u64;
+        pub fn fibergravel_banded_correction(
+            tape: *const u8,
+            tape_len: usize,
+            residuals: *const i64,
+            residuals_len: usize,
+            pivots: *mut f64,
+            pivots_len: usize,
+            correction: *mut f64,
+            correction_len: usize,
+            out: *mut i64,
+        ) -> u64;
         pub fn fibergravel_import_entry(entry: f64, out: *mut i64, leftover: *mut f64) -> u64;
         pub fn fibergravel_import_model(
             n: usize,
@@ -80,6 +92,9 @@ pub const READ_LENGTH: usize = 118;
 /// How many numbers [`read_references`] writes.
 pub const READ_REFERENCES_LENGTH: usize = 240;
 
+/// How many numbers [`read_step`] writes.
+pub const READ_STEP_LENGTH: usize = 1;
+
 /// How many numbers [`judge_plan`] writes.
 pub const JUDGE_PLAN_LENGTH: usize = 1;
 
@@ -94,6 +109,9 @@ pub const SOLVE_LENGTH: usize = 7;
 
 /// How many numbers [`record`] writes.
 pub const RECORD_LENGTH: usize = 1;
+
+/// How many whole numbers [`banded_correction`] writes.
+pub const BANDED_CORRECTION_LENGTH: usize = 1;
 
 /// How many whole numbers [`import_entry`] writes.
 pub const IMPORT_ENTRY_LENGTH: usize = 2;
@@ -116,6 +134,13 @@ pub fn read_references(tape: &[u8], out: &mut [i64; READ_REFERENCES_LENGTH]) -> 
     // SAFETY: the tape's pointer and length are one slice's, never null, and `out` has the places
     // that the call writes. It keeps no pointer.
     unsafe { foreign::fibergravel_read_references(tape.as_ptr(), tape.len(), out.as_mut_ptr()) }
+}
+
+/// Reads which step a tape asks for. `out`: 0 where it has command 50, 1 where it has 51.
+pub fn read_step(tape: &[u8], out: &mut [i64; READ_STEP_LENGTH]) -> u64 {
+    // SAFETY: the tape's pointer and length are one slice's, never null, and `out` has the place
+    // that the call writes. It keeps no pointer.
+    unsafe { foreign::fibergravel_read_step(tape.as_ptr(), tape.len(), out.as_mut_ptr()) }
 }
 
 /// Judges a plan with multipliers. `out`: the gap.
@@ -245,6 +270,35 @@ pub fn record(
             laboratory.len(),
             service.as_mut_ptr(),
             service.len(),
+            out.as_mut_ptr(),
+        )
+    }
+}
+
+/// Shows the floats of the banded step for residuals from −2^40 to 2^40, by step and then state.
+/// `out`: 1, with the pivots and the d of these residuals in the two slices; or 0, with both as they
+/// were, where the tape has command 50 or falls back on g. The answer 5 carries nothing where it is
+/// for a residual, and is then the same as that of a tape refused with 5 at offset 0.
+pub fn banded_correction(
+    tape: &[u8],
+    residuals: &[i64],
+    pivots: &mut [f64],
+    correction: &mut [f64],
+    out: &mut [i64; BANDED_CORRECTION_LENGTH],
+) -> u64 {
+    // SAFETY: each pointer and the length after it are one slice's, the three that are written
+    // are lent mutably and so lie apart, and `out` has the place that the call writes. It keeps
+    // no pointer.
+    unsafe {
+        foreign::fibergravel_banded_correction(
+            tape.as_ptr(),
+            tape.len(),
+            residuals.as_ptr(),
+            residuals.len(),
+            pivots.as_mut_ptr(),
+            pivots.len(),
+            correction.as_mut_ptr(),
+            correction.len(),
             out.as_mut_ptr(),
         )
     }

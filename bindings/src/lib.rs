@@ -1,11 +1,12 @@
 //! The proved sinter furnace planner for Rust programs.
 //!
-//! This crate links `libplanner.a`, which `rt staticlib planner` writes, and wraps its ten calls.
-//! Eight take a tape's bytes; [`import_model`] writes the model's commands for a tape from floats,
+//! This crate links `libplanner.a`, which `rt staticlib planner` writes, and wraps its twelve calls.
+//! Ten take a tape's bytes; [`import_model`] writes the model's commands for a tape from floats,
 //! and [`import_entry`] rounds a single one. Every call may be lent anything: what the papers
 //! refuse comes back as a [`Refusal`], and then no lent number has changed. Of a plan that fails,
 //! [`judge_report`] says where and why; of one that is accepted, [`ranges`] says how different the
-//! first duties of a plan as cheap can be. The crate needs `core` only.
+//! first duties of a plan as cheap can be. [`read_step`] says whether a tape asks for the banded
+//! step, and [`banded_correction`] shows its floats. The crate needs `core` only.
 //! `docs/TAPE.md` of the repository has the tape's format, `include/fibergravel.h` what a call
 //! needs of memory, stack and time.
 //!
@@ -52,6 +53,7 @@
 #[cfg(test)]
 extern crate std;
 
+mod banded;
 pub mod calls;
 mod range;
 mod record;
@@ -60,6 +62,7 @@ mod report;
 
 use core::array::from_fn;
 
+pub use banded::{banded_correction, read_step, Correction, Floats, Step};
 pub use range::{ranges, Range, Ranges};
 pub use record::{Duties, Kind, Multipliers, Numbers, Outcome, Plan, Record, Seen};
 pub use refusal::Refusal;
@@ -77,8 +80,10 @@ pub const MOST_COLUMNS: usize = MOST_STATES + MOST_INPUTS;
 pub const MOST_TAPE: usize = 1064;
 /// The most numbers of a plan.
 pub const MOST_PLAN: usize = MOST_STEPS * MOST_COLUMNS;
-/// The most numbers of multipliers.
+/// The most numbers of multipliers, and of residuals, pivots and a correction.
 pub const MOST_MULTIPLIERS: usize = MOST_STEPS * MOST_STATES;
+/// The largest size of a residual that [`banded_correction`] takes, 2^40.
+pub const MOST_RESIDUAL: i64 = 1 << 40;
 /// The most bytes of an imported model.
 pub const MOST_MODEL: usize = model_length(MOST_STATES, MOST_INPUTS);
 /// The bytes of a record for the laboratory.
@@ -117,7 +122,8 @@ pub struct Tape {
     pub weight: [i64; MOST_COLUMNS],
     /// The start x(0).
     pub start: [i64; MOST_STATES],
-    /// The gain g, the step size of a round.
+    /// The gain g, the step size of a round; with command 51 it is used only where the tape falls
+    /// back on it.
     pub gain: i64,
     /// R, the number of rounds allowed.
     pub rounds: i64,
@@ -307,7 +313,7 @@ fn wrong_library() -> ! {
 ///
 /// # Errors
 ///
-/// Refusals 1 to 8, each with an offset in the tape.
+/// Refusals 1 to 8 and 18, each with an offset in the tape.
 pub fn read(tape: &[u8]) -> Result<Tape, Refusal> {
     let mut out = [0; calls::READ_LENGTH];
     accepted(calls::read(tape, &mut out))?;
@@ -339,7 +345,7 @@ pub fn read(tape: &[u8]) -> Result<Tape, Refusal> {
 ///
 /// # Errors
 ///
-/// Refusals 1 to 8, as [`read`] gives them.
+/// Refusals 1 to 8 and 18, as [`read`] gives them.
 pub fn read_references(tape: &[u8]) -> Result<References, Refusal> {
     let mut out = [0; calls::READ_REFERENCES_LENGTH];
     accepted(calls::read_references(tape, &mut out))?;
@@ -351,7 +357,7 @@ pub fn read_references(tape: &[u8]) -> Result<References, Refusal> {
 ///
 /// # Errors
 ///
-/// Refusals 1 to 8 of the tape; 9 where a slice has not the length of [`Tape::plan_length`] or
+/// Refusals 1 to 8 and 18 of the tape; 9 where a slice has not the length of [`Tape::plan_length`] or
 /// [`Tape::multipliers_length`]; then 12 of the multipliers, 10 and 11 of the plan, and 13. Of the
 /// last three [`judge_report`] says more.
 pub fn judge_plan(tape: &[u8], plan: &[i32], multipliers: &[i32]) -> Result<i64, Refusal> {
@@ -366,7 +372,7 @@ pub fn judge_plan(tape: &[u8], plan: &[i32], multipliers: &[i32]) -> Result<i64,
 ///
 /// # Errors
 ///
-/// Refusals 1 to 8 of the tape, 9 of the slice's length, then 12 and 14.
+/// Refusals 1 to 8 and 18 of the tape, 9 of the slice's length, then 12 and 14.
 pub fn judge_multipliers(tape: &[u8], multipliers: &[i32]) -> Result<Shown, Refusal> {
     accepted(calls::judge_multipliers(tape, multipliers))?;
     Ok(Shown)
@@ -377,8 +383,8 @@ pub fn judge_multipliers(tape: &[u8], multipliers: &[i32]) -> Result<Shown, Refu
 ///
 /// # Errors
 ///
-/// Refusals 1 to 8 of the tape, 9 of the slices' lengths, and 15, 'open', where R rounds ended
-/// without an answer. A refusal leaves both slices as they were.
+/// Refusals 1 to 8 and 18 of the tape, 9 of the slices' lengths, and 15, 'open', where R rounds
+/// ended without an answer. A refusal leaves both slices as they were.
 pub fn solve(tape: &[u8], plan: &mut [i32], multipliers: &mut [i32]) -> Result<Solved, Refusal> {
     let mut out = [0; calls::SOLVE_LENGTH];
     accepted(calls::solve(tape, plan, multipliers, &mut out))?;
@@ -435,8 +441,8 @@ pub fn solve(tape: &[u8], plan: &mut [i32], multipliers: &mut [i32]) -> Result<S
 ///
 /// # Errors
 ///
-/// Refusals 1 to 8 of the tape, and 9 of the slices' lengths, which leave both slices as they were.
-/// 'Open' is none here: its record has R rounds.
+/// Refusals 1 to 8 and 18 of the tape, and 9 of the slices' lengths, which leave both slices as they
+/// were. 'Open' is none here: its record has R rounds.
 pub fn record(tape: &[u8], laboratory: &mut [u8], service: &mut [u8]) -> Result<Kind, Refusal> {
     let mut out = [0; calls::RECORD_LENGTH];
     match calls::record(tape, laboratory, service, &mut out) {
@@ -459,7 +465,7 @@ fn recorded(numbers: [i64; calls::RECORD_LENGTH], laboratory: &[u8], service: &[
 /// The refusal of a record.
 fn record_refusal(answer: u64) -> Refusal {
     match Refusal::from_answer(answer) {
-        Some(refusal) if refusal.number() <= 9 => refusal,
+        Some(refusal) if matches!(refusal.number(), 1..=9 | 18) => refusal,
         _ => wrong_library(),
     }
 }
@@ -627,7 +633,7 @@ mod tests {
 
     #[test]
     fn what_no_planner_answers_panics() {
-        for answer in [16, 17 + 256, 18, 9 + 256, u64::MAX] {
+        for answer in [16, 17 + 256, 19, 9 + 256, u64::MAX] {
             assert!(catch_unwind(|| accepted(answer)).is_err());
         }
         assert!(catch_unwind(|| accepted_tape(&[])).is_err());
@@ -721,7 +727,9 @@ mod tests {
             Refusal::Overrun { offset }
         );
         assert_eq!(record_refusal(9), Refusal::Length);
-        for answer in [0, 10, 14, 15 + 256, 16, 17 + 256, 18, 9 + 256, u64::MAX] {
+        let weightless = Refusal::Weightless { offset };
+        assert_eq!(record_refusal(18 + 256 * offset), weightless);
+        for answer in [0, 10, 14, 15 + 256, 16, 17 + 256, 19, 9 + 256, u64::MAX] {
             assert!(catch_unwind(|| record_refusal(answer)).is_err());
         }
     }
@@ -750,6 +758,8 @@ mod tests {
         let misplaced = Refusal::Misplaced { offset: 0 };
         assert_eq!(read(&[]), Err(cut));
         assert_eq!(read_references(&[]), Err(cut));
+        assert_eq!(read_step(&[0]), Err(unknown));
+        assert_eq!(banded_correction(&[0xff], &[i64::MIN]), Err(misplaced));
         assert_eq!(judge_plan(&[0xff], &[], &[]), Err(misplaced));
         assert_eq!(judge_report(&[0xff], &[], &[1]), Err(misplaced));
         assert_eq!(ranges(&[0x10], &[7], &[]), Err(cut));

@@ -53,7 +53,7 @@ pub type Ranges = Numbers<Range, MOST_INPUTS>;
 ///
 /// # Errors
 ///
-/// Refusals 1 to 13, as [`crate::judge_plan`] gives them.
+/// Refusals 1 to 13 and 18, as [`crate::judge_plan`] gives them.
 pub fn ranges(tape: &[u8], plan: &[i32], multipliers: &[i32]) -> Result<Ranges, Refusal> {
     let mut out = [0; calls::RANGES_LENGTH];
     match calls::ranges(tape, plan, multipliers, &mut out) {
@@ -65,7 +65,7 @@ pub fn ranges(tape: &[u8], plan: &[i32], multipliers: &[i32]) -> Result<Ranges, 
 /// The refusal of ranges.
 fn ranges_refusal(answer: u64) -> Refusal {
     match Refusal::from_answer(answer) {
-        Some(refusal) if refusal.number() <= 13 => refusal,
+        Some(refusal) if matches!(refusal.number(), 1..=13 | 18) => refusal,
         _ => wrong_library(),
     }
 }
@@ -150,10 +150,11 @@ mod tests {
             (11, Refusal::OverLimit),
             (12, Refusal::Multiplier),
             (13, Refusal::Wide),
+            (18, Refusal::Weightless { offset: 0 }),
         ] {
             assert_eq!(ranges_refusal(answer), refusal);
         }
-        for answer in [0, 14, 15, 16, 17, 18, 13 + 256, u64::MAX] {
+        for answer in [0, 14, 15, 16, 17, 19, 13 + 256, u64::MAX] {
             assert!(catch_unwind(|| ranges_refusal(answer)).is_err());
         }
     }

@@ -43,8 +43,8 @@ impl fmt::Display for Kind {
     }
 }
 
-/// Up to `MOST` numbers or [ranges](crate::Range), a slice that needs no allocator. Equal where the
-/// slices are equal.
+/// Up to `MOST` numbers, floats or [ranges](crate::Range), a slice that needs no allocator. Equal
+/// where the slices are equal.
 #[derive(Clone, Copy)]
 pub struct Numbers<T, const MOST: usize> {
     places: [T; MOST],

@@ -1,4 +1,4 @@
-//! The refusals, 1 to 17.
+//! The refusals, 1 to 18.
 
 use core::fmt;
 
@@ -33,9 +33,10 @@ pub enum Refusal {
         /// Of the command byte.
         offset: u64,
     },
-    /// 5 of [`crate::import_model`]: n or m outside its range. It carries nothing.
+    /// 5 of [`crate::import_model`]: n or m outside its range. Of [`crate::banded_correction`]: a
+    /// residual beyond [`crate::MOST_RESIDUAL`] in size. It carries nothing.
     ArgumentOutOfRange,
-    /// 6: the same place, a column's step included, or 50, given again.
+    /// 6: the same place, a column's step included, given again, or a 50 or 51 after either.
     Twice {
         /// Of the command byte.
         offset: u64,
@@ -80,6 +81,11 @@ pub enum Refusal {
         /// Its count from 0, A by rows and then B by rows; none where an entry is imported alone.
         entry: Option<u64>,
     },
+    /// 18: at FF, a weight is 0 on a tape with command 51. It comes after 7 and before 8.
+    Weightless {
+        /// Of FF.
+        offset: u64,
+    },
 }
 
 impl Refusal {
@@ -112,6 +118,7 @@ impl Refusal {
             17 => Refusal::TooLarge {
                 entry: Some(carried),
             },
+            18 => Refusal::Weightless { offset },
             _ => return None,
         })
     }
@@ -137,10 +144,11 @@ impl Refusal {
             Refusal::Open { rounds } => (15, "open", Some(rounds)),
             Refusal::NotFinite { entry } => (16, "not finite", entry),
             Refusal::TooLarge { entry } => (17, "too large", entry),
+            Refusal::Weightless { offset } => (18, "weightless", Some(offset)),
         }
     }
 
-    /// The number in the papers' tables, 1 to 17.
+    /// The number in the papers' tables, 1 to 18.
     pub fn number(self) -> u64 {
         self.row().0
     }
@@ -150,8 +158,8 @@ impl Refusal {
         self.row().1
     }
 
-    /// An offset for 1 to 8, R for 15, an entry's count for 16 and 17; nothing for 9 to 14, for 5 of
-    /// a model, and for 16 and 17 of an entry alone.
+    /// An offset for 1 to 8 and 18, R for 15, an entry's count for 16 and 17; nothing for 9 to 14,
+    /// for 5 of a model or a residual, and for 16 and 17 of an entry alone.
     pub fn carried(self) -> Option<u64> {
         self.row().2
     }
@@ -182,7 +190,7 @@ mod tests {
 
     #[test]
     fn each_number_gives_its_refusal() {
-        for number in 1..=17 {
+        for number in 1..=18 {
             let carried = if (9..=14).contains(&number) { 0 } else { 1063 };
             let refusal = Refusal::from_answer(number + 256 * carried).expect("in the table");
             assert_eq!(refusal.number(), number);
@@ -192,7 +200,7 @@ mod tests {
 
     #[test]
     fn no_other_number_gives_one() {
-        for answer in [0, 18, 255, 256, 9 + 256, 14 + 256, u64::MAX] {
+        for answer in [0, 19, 255, 256, 9 + 256, 14 + 256, u64::MAX] {
             assert_eq!(Refusal::from_answer(answer), None);
         }
     }
@@ -219,6 +227,10 @@ mod tests {
         assert_eq!(
             Refusal::TooLarge { entry: None }.to_string(),
             "refused 17 (too large)"
+        );
+        assert_eq!(
+            Refusal::Weightless { offset: 133 }.to_string(),
+            "refused 18 (weightless) at 133"
         );
     }
 }

@@ -83,7 +83,7 @@ pub enum Column {
 ///
 /// # Errors
 ///
-/// Refusals 1 to 8 of the tape; 9 where a slice has not the length of [`Tape::plan_length`] or
+/// Refusals 1 to 8 and 18 of the tape; 9 where a slice has not the length of [`Tape::plan_length`] or
 /// [`Tape::multipliers_length`]; then 12 of the multipliers, before the plan is looked at.
 pub fn judge_report(tape: &[u8], plan: &[i32], multipliers: &[i32]) -> Result<Report, Refusal> {
     let mut out = [0; calls::JUDGE_REPORT_LENGTH];
@@ -96,7 +96,7 @@ pub fn judge_report(tape: &[u8], plan: &[i32], multipliers: &[i32]) -> Result<Re
 /// The refusal of a report.
 fn report_refusal(answer: u64) -> Refusal {
     match Refusal::from_answer(answer) {
-        Some(refusal) if matches!(refusal.number(), 1..=9 | 12) => refusal,
+        Some(refusal) if matches!(refusal.number(), 1..=9 | 12 | 18) => refusal,
         _ => wrong_library(),
     }
 }
@@ -300,7 +300,8 @@ mod tests {
         assert_eq!(report_refusal(8 + 256 * offset), overrun);
         assert_eq!(report_refusal(9), Refusal::Length);
         assert_eq!(report_refusal(12), Refusal::Multiplier);
-        for answer in [0, 10, 11, 13, 14, 15, 16, 17, 18, 12 + 256, u64::MAX] {
+        assert_eq!(report_refusal(18), Refusal::Weightless { offset: 0 });
+        for answer in [0, 10, 11, 13, 14, 15, 16, 17, 19, 12 + 256, u64::MAX] {
             assert!(catch_unwind(|| report_refusal(answer)).is_err());
         }
     }

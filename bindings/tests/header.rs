@@ -25,12 +25,14 @@ fn sizes_and_lengths() {
         ("MOST_MODEL", fibergravel::MOST_MODEL),
         ("READ_LENGTH", calls::READ_LENGTH),
         ("READ_REFERENCES_LENGTH", calls::READ_REFERENCES_LENGTH),
+        ("READ_STEP_LENGTH", calls::READ_STEP_LENGTH),
         ("JUDGE_PLAN_LENGTH", calls::JUDGE_PLAN_LENGTH),
         ("JUDGE_REPORT_LENGTH", calls::JUDGE_REPORT_LENGTH),
         ("RANGES_LENGTH", calls::RANGES_LENGTH),
         ("SOLVE_LENGTH", calls::SOLVE_LENGTH),
         ("RECORD_LENGTH", calls::RECORD_LENGTH),
         ("LABORATORY_LENGTH", fibergravel::LABORATORY_LENGTH),
+        ("BANDED_CORRECTION_LENGTH", calls::BANDED_CORRECTION_LENGTH),
         ("IMPORT_ENTRY_LENGTH", calls::IMPORT_ENTRY_LENGTH),
         ("IMPORT_LEFTOVER_LENGTH", calls::IMPORT_LEFTOVER_LENGTH),
     ];
@@ -105,6 +107,35 @@ fn places_of_ranges() {
 }
 
 #[test]
+fn the_largest_residual() {
+    let defined = "FIBERGRAVEL_MOST_RESIDUAL ((int64_t)1 << ";
+    let (_, rest) = HEADER.split_once(defined).expect("in the header");
+    let (power, _) = rest.split_once(')').expect("a number");
+    assert_eq!(power.parse::<u32>(), Ok(fibergravel::MOST_RESIDUAL.ilog2()));
+    assert!(fibergravel::MOST_RESIDUAL.count_ones() == 1);
+}
+
+#[test]
+fn steps_of_a_tape() {
+    for (tape, name) in [
+        (
+            include_bytes!("../../examples/coupled_gain.tape"),
+            "STEP_GAIN",
+        ),
+        (include_bytes!("../../examples/coupled.tape"), "STEP_BANDED"),
+    ] {
+        let step = place(name) as i64;
+        let mut out = [7; calls::READ_STEP_LENGTH];
+        assert_eq!(calls::read_step(tape, &mut out), 0);
+        assert_eq!(out, [step]);
+        let (residuals, mut pivots, mut d) = ([0; 36], [0.0; 36], [0.0; 36]);
+        let mut out = [7; calls::BANDED_CORRECTION_LENGTH];
+        let answer = calls::banded_correction(tape, &residuals, &mut pivots, &mut d, &mut out);
+        assert_eq!((answer, out), (0, [step]));
+    }
+}
+
+#[test]
 fn kinds_of_a_record() {
     assert_eq!(place("PROVED"), Kind::Proved as usize);
     assert_eq!(place("IMPOSSIBLE"), Kind::Impossible as usize);
@@ -160,7 +191,7 @@ fn places_and_kinds_of_an_entry() {
 
 #[test]
 fn refusals() {
-    for answer in 1..=17 {
+    for answer in 1..=18 {
         let refusal = Refusal::from_answer(answer).expect("in the table");
         let name = refusal.word().replace(' ', "_").to_uppercase();
         assert_eq!(number(&name), Some(answer), "{name}");

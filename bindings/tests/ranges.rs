@@ -58,8 +58,12 @@ fn ranges_of_each_piece() {
 }
 
 /// The examples of which a solve leaves a plan, with their slips.
-const PROVED: [(&[u8], &str); 5] = [
+const PROVED: [(&[u8], &str); 6] = [
     (TAPE_F, include_str!("../../examples/f.slip")),
+    (
+        include_bytes!("../../examples/coupled.tape"),
+        include_str!("../../examples/coupled.slip"),
+    ),
     (
         include_bytes!("../../examples/firing.tape"),
         include_str!("../../examples/firing.slip"),

@@ -9,19 +9,21 @@ use reference::generate::Lent;
 use reference::range::RANGES_LENGTH;
 use reference::record::{Kind, LABORATORY_LENGTH};
 use reference::{
-    judge_multipliers, judge_plan, ranges, read, record, solve, Furnace, Record, Refusal, Report,
-    Shown, Solved, Whole,
+    banded_correction, judge_multipliers, judge_plan, ranges, read, read_step, record, solve,
+    Furnace, Record, Refusal, Report, Shown, Solved, Whole,
 };
 
-use crate::guard::{marks, Beside, Guarded, GUARD};
+use crate::guard::{float_bits, marks, Beside, Guarded, GUARD};
 
-/// The eight calls that take a tape.
+/// The ten calls that take a tape.
 #[derive(Clone, Copy, Debug, PartialEq, Eq)]
 pub enum Call {
     /// Reads a tape.
     Read,
     /// Reads a tape's references by step.
     ReadReferences,
+    /// Reads which step a tape asks for.
+    ReadStep,
     /// Judges a plan with multipliers.
     JudgePlan,
     /// Judges a plan with multipliers, and reports where it fails.
@@ -34,19 +36,23 @@ pub enum Call {
     Solve,
     /// Solves, and writes the record for both readers.
     Record,
+    /// Shows the floats of the banded step.
+    BandedCorrection,
 }
 
 impl Call {
-    /// The eight.
-    pub const ALL: [Call; 8] = [
+    /// The ten.
+    pub const ALL: [Call; 10] = [
         Call::Read,
         Call::ReadReferences,
+        Call::ReadStep,
         Call::JudgePlan,
         Call::JudgeReport,
         Call::Ranges,
         Call::JudgeMultipliers,
         Call::Solve,
         Call::Record,
+        Call::BandedCorrection,
     ];
 
     /// How many numbers the call's `out` has.
@@ -54,18 +60,21 @@ impl Call {
         match self {
             Call::Read => calls::READ_LENGTH,
             Call::ReadReferences => calls::READ_REFERENCES_LENGTH,
+            Call::ReadStep => calls::READ_STEP_LENGTH,
             Call::JudgePlan => calls::JUDGE_PLAN_LENGTH,
             Call::JudgeReport => calls::JUDGE_REPORT_LENGTH,
             Call::Ranges => calls::RANGES_LENGTH,
             Call::JudgeMultipliers => 0,
             Call::Solve => calls::SOLVE_LENGTH,
             Call::Record => calls::RECORD_LENGTH,
+            Call::BandedCorrection => calls::BANDED_CORRECTION_LENGTH,
         }
     }
 }
 
-/// What a call is lent. [`Call::Read`] and [`Call::ReadReferences`] take the tape alone,
-/// [`Call::JudgeMultipliers`] no plan, [`Call::Record`] neither a plan nor multipliers.
+/// What a call is lent. [`Call::Read`], [`Call::ReadReferences`] and [`Call::ReadStep`] take the tape
+/// alone, [`Call::JudgeMultipliers`] no plan, [`Call::Record`] and [`Call::BandedCorrection`] neither a
+/// plan nor multipliers.
 #[derive(Clone, Copy, Debug)]
 pub struct Lending<'a> {
     /// Where it comes from, in a few words.
@@ -81,6 +90,11 @@ pub struct Lending<'a> {
     /// How many bytes [`Call::Record`] is lent for the laboratory and for the service. They hold
     /// marks.
     pub readers: [usize; 2],
+    /// The residuals for [`Call::BandedCorrection`]. Where there are none, they are made of the
+    /// multipliers.
+    pub residuals: Option<&'a [i64]>,
+    /// How many places [`Call::BandedCorrection`] is lent for pivots and for d. They hold marks.
+    pub floats: [usize; 2],
     /// The record of the tape, where a solve has led to it already. Rounds of the second program are
     /// dear, and need not be run again.
     pub record: Option<&'a Record>,
@@ -89,12 +103,15 @@ pub struct Lending<'a> {
     pub judged: Option<Result<Whole, Refusal>>,
 }
 
+/// A multiplier of 32 bits times this is a residual within 2^40.
+const OF_MULTIPLIER: i64 = 1 << 9;
+
 /// FF behind a tape, which an end before FF would take for its own.
 const ENDS: [u8; GUARD] = [0xff; GUARD];
 
 impl<'a> Lending<'a> {
     /// A tape and slices with [`ENDS`] behind the tape. A record has place for as many numbers as
-    /// are lent.
+    /// are lent, and pivots and d for as many as there are multipliers.
     pub fn new(
         origin: &'a str,
         tape: &'a [u8],
@@ -111,6 +128,8 @@ impl<'a> Lending<'a> {
                 LABORATORY_LENGTH,
                 LABORATORY_LENGTH + 3 + 4 * (plan.len() + multipliers.len()),
             ],
+            residuals: None,
+            floats: [multipliers.len(); 2],
             record: None,
             judged: None,
         }
@@ -128,6 +147,26 @@ impl<'a> Lending<'a> {
             _ => [Vec::new(), Vec::new()],
         }
     }
+
+    /// The residuals that are lent; none by other calls.
+    pub fn residuals(&self, call: Call) -> Vec<i64> {
+        let of_multipliers = || {
+            let multipliers = self.multipliers.iter();
+            multipliers.map(|y| OF_MULTIPLIER * i64::from(*y)).collect()
+        };
+        match call {
+            Call::BandedCorrection => self.residuals.map_or_else(of_multipliers, <[i64]>::to_vec),
+            _ => Vec::new(),
+        }
+    }
+
+    /// What is lent for pivots and for d; nothing by other calls.
+    pub fn for_floats(&self, call: Call) -> [Vec<f64>; 2] {
+        match call {
+            Call::BandedCorrection => self.floats.map(marks),
+            _ => [Vec::new(), Vec::new()],
+        }
+    }
 }
 
 impl fmt::Display for Lending<'_> {
@@ -138,7 +177,11 @@ impl fmt::Display for Lending<'_> {
         writeln!(f, "plan lent {:?}", self.plan)?;
         writeln!(f, "multipliers lent {:?}", self.multipliers)?;
         let [laboratory, service] = self.readers;
-        write!(f, "bytes lent for a record {laboratory} and {service}")
+        writeln!(f, "bytes lent for a record {laboratory} and {service}")?;
+        let residuals = self.residuals(Call::BandedCorrection);
+        writeln!(f, "residuals lent {residuals:?}")?;
+        let [pivots, correction] = self.floats;
+        write!(f, "places lent for pivots and d {pivots} and {correction}")
     }
 }
 
@@ -171,7 +214,11 @@ pub struct Left {
     pub laboratory: Vec<u8>,
     /// What was lent for the service.
     pub service: Vec<u8>,
-    /// Is all else as it was: the tape and the cells beside everything that was lent?
+    /// The bits of what was lent for pivots.
+    pub pivots: Vec<u64>,
+    /// The bits of what was lent for d.
+    pub correction: Vec<u64>,
+    /// Is all else as it was: the tape, the residuals and the cells beside everything that was lent?
     pub rest_holds: bool,
 }
 
@@ -185,9 +232,19 @@ pub fn by_planner(call: Call, lending: &Lending, beside: Beside) -> Left {
     let mut multipliers = Guarded::marked(lending.multipliers, beside);
     let readers = lending.for_readers(call);
     let [mut laboratory, mut service] = readers.map(|lent| Guarded::marked(&lent, beside));
-    let numbers = (&mut plan, &mut multipliers);
-    let bytes = (&mut laboratory, &mut service);
-    let (answer, out) = made(call, tape.lent(), numbers, bytes, beside);
+    let residuals = Guarded::marked(&lending.residuals(call), beside);
+    let floats = lending.for_floats(call);
+    let [mut pivots, mut correction] = floats.map(|lent| Guarded::marked(&lent, beside));
+    let slices = Slices {
+        plan: plan.lent_mut(),
+        multipliers: multipliers.lent_mut(),
+        laboratory: laboratory.lent_mut(),
+        service: service.lent_mut(),
+        residuals: residuals.lent(),
+        pivots: pivots.lent_mut(),
+        correction: correction.lent_mut(),
+    };
+    let (answer, out) = made(call, tape.lent(), slices, beside);
     Left {
         answer,
         rest_holds: tape.all_hold()
@@ -195,46 +252,60 @@ pub fn by_planner(call: Call, lending: &Lending, beside: Beside) -> Left {
             && multipliers.guards_hold()
             && laboratory.guards_hold()
             && service.guards_hold()
+            && residuals.all_hold()
+            && pivots.guards_hold()
+            && correction.guards_hold()
             && out.guards_hold(),
         out: out.lent().to_vec(),
         plan: plan.lent().to_vec(),
         multipliers: multipliers.lent().to_vec(),
         laboratory: laboratory.lent().to_vec(),
         service: service.lent().to_vec(),
+        pivots: float_bits(pivots.lent()),
+        correction: float_bits(correction.lent()),
     }
 }
 
-/// Two things of one kind that are lent together.
-type Two<'a, T> = (&'a mut Guarded<T>, &'a mut Guarded<T>);
+/// What the calls are lent beside the tape and `out`.
+struct Slices<'a> {
+    plan: &'a mut [i32],
+    multipliers: &'a mut [i32],
+    laboratory: &'a mut [u8],
+    service: &'a mut [u8],
+    residuals: &'a [i64],
+    pivots: &'a mut [f64],
+    correction: &'a mut [f64],
+}
 
 /// Makes a call of the planner, and gives its answer and its `out`.
-fn made(
-    call: Call,
-    tape: &[u8],
-    (plan, multipliers): Two<i32>,
-    (laboratory, service): Two<u8>,
-    beside: Beside,
-) -> (u64, Guarded<i64>) {
+fn made(call: Call, tape: &[u8], slices: Slices, beside: Beside) -> (u64, Guarded<i64>) {
+    let Slices {
+        plan,
+        multipliers,
+        laboratory,
+        service,
+        residuals,
+        pivots,
+        correction,
+    } = slices;
     match call {
         Call::Read => with_out(beside, |out| calls::read(tape, out)),
         Call::ReadReferences => with_out(beside, |out| calls::read_references(tape, out)),
+        Call::ReadStep => with_out(beside, |out| calls::read_step(tape, out)),
         Call::JudgePlan => with_out(beside, |out| {
-            calls::judge_plan(tape, plan.lent(), multipliers.lent(), out)
+            calls::judge_plan(tape, plan, multipliers, out)
         }),
         Call::JudgeReport => with_out(beside, |out| {
-            calls::judge_report(tape, plan.lent(), multipliers.lent(), out)
+            calls::judge_report(tape, plan, multipliers, out)
         }),
-        Call::Ranges => with_out(beside, |out| {
-            calls::ranges(tape, plan.lent(), multipliers.lent(), out)
-        }),
+        Call::Ranges => with_out(beside, |out| calls::ranges(tape, plan, multipliers, out)),
         Call::JudgeMultipliers => with_out(beside, |_: &mut [i64; 0]| {
-            calls::judge_multipliers(tape, multipliers.lent())
+            calls::judge_multipliers(tape, multipliers)
         }),
-        Call::Solve => with_out(beside, |out| {
-            calls::solve(tape, plan.lent_mut(), multipliers.lent_mut(), out)
-        }),
-        Call::Record => with_out(beside, |out| {
-            calls::record(tape, laboratory.lent_mut(), service.lent_mut(), out)
+        Call::Solve => with_out(beside, |out| calls::solve(tape, plan, multipliers, out)),
+        Call::Record => with_out(beside, |out| calls::record(tape, laboratory, service, out)),
+        Call::BandedCorrection => with_out(beside, |out| {
+            calls::banded_correction(tape, residuals, pivots, correction, out)
         }),
     }
 }
@@ -256,6 +327,8 @@ pub enum Answer {
     Read(Result<Furnace, Refusal>),
     /// Of [`Call::ReadReferences`]: the furnace with the curves.
     References(Result<Furnace, Refusal>),
+    /// Of [`Call::ReadStep`].
+    Step(Result<Whole, Refusal>),
     /// Of [`Call::JudgePlan`].
     Gap(Result<Whole, Refusal>),
     /// Of [`Call::JudgeReport`].
@@ -268,6 +341,8 @@ pub enum Answer {
     Solved(Result<Solved, Refusal>),
     /// Of [`Call::Record`].
     Recorded(Result<Kind, Refusal>),
+    /// Of [`Call::BandedCorrection`].
+    Corrected(Result<Whole, Refusal>),
 }
 
 /// The second program's side.
@@ -276,9 +351,11 @@ pub fn by_reference(call: Call, lending: &Lending) -> (Answer, Left) {
     let mut plan = lending.plan.to_vec();
     let mut multipliers = lending.multipliers.to_vec();
     let [mut laboratory, mut service] = lending.for_readers(call);
+    let [mut pivots, mut correction] = lending.for_floats(call);
     let answer = match call {
         Call::Read => Answer::Read(read(tape)),
         Call::ReadReferences => Answer::References(read(tape)),
+        Call::ReadStep => Answer::Step(read_step(tape)),
         Call::JudgePlan => Answer::Gap(judge_plan(tape, &plan, &multipliers)),
         Call::JudgeReport => {
             let judged = || judge_plan(tape, &plan, &multipliers);
@@ -294,6 +371,12 @@ pub fn by_reference(call: Call, lending: &Lending) -> (Answer, Left) {
             Some(known) => known.write(&mut laboratory, &mut service),
             None => record(tape, &mut laboratory, &mut service),
         }),
+        Call::BandedCorrection => Answer::Corrected(banded_correction(
+            tape,
+            &lending.residuals(call),
+            &mut pivots,
+            &mut correction,
+        )),
     };
     let (number, out) = match numbers(&answer) {
         Ok(out) => (0, out),
@@ -306,6 +389,8 @@ pub fn by_reference(call: Call, lending: &Lending) -> (Answer, Left) {
         multipliers,
         laboratory,
         service,
+        pivots: float_bits(&pivots),
+        correction: float_bits(&correction),
         rest_holds: true,
     };
     (answer, left)
@@ -327,7 +412,9 @@ fn numbers(answer: &Answer) -> Result<Vec<i64>, Refusal> {
             let furnace = read.as_ref().map_err(|refusal| *refusal)?;
             Ok(narrow_all(reference_numbers(furnace)))
         }
-        Answer::Gap(gap) => Ok(vec![narrow((*gap)?)]),
+        Answer::Gap(number) | Answer::Step(number) | Answer::Corrected(number) => {
+            Ok(vec![narrow((*number)?)])
+        }
         Answer::Reported(report) => Ok((*report)?.numbers().map(narrow).to_vec()),
         Answer::Ranged(ends) => Ok((*ends)?.map(narrow).to_vec()),
         Answer::Shown(shown) => {

@@ -11,7 +11,9 @@ use reference::record::Record;
 use reference::refusal::Refusal;
 
 use crate::calls::{Answer, Call, Left, Lending};
-use crate::comparison::{Comparison, ALL_CURVES, CUT, JUDGED, NO_CURVE, REFERENCES, SOME_CURVES};
+use crate::comparison::{
+    Comparison, ALL_CURVES, CUT, JUDGED, NO_CURVE, REFERENCES, SOME_CURVES, STEP,
+};
 use crate::guard::GUARD;
 use crate::tune;
 
@@ -31,7 +33,9 @@ impl Comparison {
         };
         self.counts.add_read(&furnace);
         self.counts.add_steps(tape, &furnace);
+        self.counts.add_search(tape, &furnace);
         self.read_references(&lending);
+        self.read_step(&lending);
         for lent in &case.judged {
             self.judge(tape, &furnace, lent);
         }
@@ -42,6 +46,8 @@ impl Comparison {
         for lent in &case.solved {
             let (solved, left) = self.solve(tape, lent);
             self.counts.add_solved(solved, &furnace);
+            self.counts.add_banded_solve(&furnace, solved);
+            self.call(Call::BandedCorrection, &Lending::of(lent, tape));
             // The ranges of what a solve leaves are those of its slip.
             self.counts
                 .add_slip_ranges(&furnace, &left.multipliers, solved);
@@ -66,8 +72,17 @@ impl Comparison {
         }
     }
 
+    /// Reads which step a tape asks for.
+    pub fn read_step(&mut self, lending: &Lending) {
+        if let (Answer::Step(step), _) = self.call(Call::ReadStep, lending) {
+            let name =
+                step.map_or_else(|refusal| refused(refusal.number()), |step| step.to_string());
+            self.counts.add(STEP, &name);
+        }
+    }
+
     /// Solves the variants of an open tape.
-    fn add_open(&mut self, open: &Furnace, random: &mut Random) {
+    pub fn add_open(&mut self, open: &Furnace, random: &mut Random) {
         let variants = tune::variants(open, random);
         let ended = variants.iter().any(|(name, _)| *name != tune::ROUNDS_CUT);
         self.open_unchanged += u64::from(!ended);
@@ -102,7 +117,7 @@ impl Comparison {
     }
 
     /// Solves, and judges what the solve left, whatever its answer, also with ranges.
-    fn solve(&mut self, tape: &[u8], lent: &Lent) -> (Result<Solved, Refusal>, Left) {
+    pub fn solve(&mut self, tape: &[u8], lent: &Lent) -> (Result<Solved, Refusal>, Left) {
         let (answer, left) = self.call(Call::Solve, &Lending::of(lent, tape));
         let lending = Lending::new(JUDGED, tape, &left.plan, &left.multipliers);
         self.also(Call::JudgePlan, &lending);

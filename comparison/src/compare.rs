@@ -7,7 +7,7 @@ use std::process::{Command, ExitCode, Stdio};
 use crate::comparison::Comparison;
 use crate::guard::Beside;
 use crate::part::Part;
-use crate::{edges, faults, given, imports, ranges, records, slip, squares, weights};
+use crate::{banded, edges, faults, given, imports, ranges, records, slip, squares, weights};
 
 /// Says where a long run is once in so many tapes.
 const SAY_ONE_IN: u64 = 10_000;
@@ -49,8 +49,8 @@ fn text(error: std::io::Error) -> String {
 }
 
 /// Compares the parts that have no seed, and the cases, tapes with drawn places, ranges of drawn
-/// duties, entries and models of `count` seeds from `first_seed` on, and prints what was tried. Fails
-/// where something differs or was never met.
+/// duties, banded steps, entries and models of `count` seeds from `first_seed` on, and prints what was
+/// tried. Fails where something differs or was never met.
 pub fn compare_here(count: u64, first_seed: u64) -> Result<(), String> {
     let mut comparison = Comparison::new(Beside::Guards, Some(slip::program()?));
     for edge in Part::EDGES {
@@ -70,7 +70,7 @@ pub fn compare_here(count: u64, first_seed: u64) -> Result<(), String> {
             eprintln!("{place} tapes, seed {seed}: {}", comparison.summary());
         }
     }
-    print!("{}", comparison.counts.text());
+    print!("{}", comparison.text());
     println!(
         "open tapes of which no change ends: {}",
         comparison.open_unchanged
@@ -110,11 +110,13 @@ pub fn add(comparison: &mut Comparison, part: Part) {
         Part::Weights => weights::add_weights(comparison),
         Part::Ranges => ranges::add_ranges(comparison),
         Part::Records => records::add_records(comparison),
+        Part::Banded => banded::add_banded(comparison),
         Part::Entries => imports::add_entries(comparison),
         Part::Models => imports::add_models(comparison),
         Part::Case(seed) => comparison.add_case(seed),
         Part::GivenOf(seed) => comparison.add_given_of(seed),
         Part::RangesOf(seed) => comparison.add_ranges_of(seed),
+        Part::BandedOf(seed) => comparison.add_banded_of(seed),
         Part::EntriesOf(seed) => comparison.add_entries_of(seed),
         Part::ModelsOf(seed) => comparison.add_models_of(seed),
     }

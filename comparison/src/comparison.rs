@@ -3,13 +3,13 @@
 use std::fmt::{Debug, Display};
 use std::path::PathBuf;
 
-use reference::count::{answers, step_refusals, Counts, STEPS};
+use reference::count::{answers, step_refusals, Counts, BANDED, STEPS};
 use reference::slip as slip_text;
 
 use crate::calls::{by_planner, by_reference, Answer, Call, Left, Lending};
 use crate::guard::Beside;
 use crate::part::Part;
-use crate::{ranges, records, slip, tune, wrapper};
+use crate::{banded, ranges, records, slip, tune, wrapper};
 
 /// A comparison ends soon after so many differences, and prints no more of them.
 const MOST_DIFFERENCES: u64 = 5;
@@ -22,6 +22,18 @@ pub const NO_CURVE: &str = "no curve";
 pub const SOME_CURVES: &str = "some curves";
 /// Of [`REFERENCES`]: every column has one.
 pub const ALL_CURVES: &str = "all curves";
+
+/// The heading of the call that reads the step.
+pub const STEP: &str = "read step";
+/// The names of the answers under [`STEP`]: of command 50 and of 51.
+pub const STEP_NAMES: [&str; 2] = ["0", "1"];
+
+/// The refusals of a tape.
+const TAPE_REFUSALS: [u32; 9] = [1, 2, 3, 4, 5, 6, 7, 8, 18];
+
+/// Headings that the second program counts for itself: rounds that it watches, and floats that no call
+/// is lent.
+const NOT_COMPARED: [&str; 3] = ["banded correction, first round", BANDED[4], BANDED[5]];
 
 /// The heading of calls that are counted apart from the generated cases.
 const ALSO: &str = "also";
@@ -71,6 +83,20 @@ pub const DRAWN_DUTIES: &str = "drawn first duties";
 pub const RECORD_SIZES: &str = "records of all sizes";
 /// Of [`ALSO`]: records with numbers that look absent.
 pub const RECORD_NUMBERS: &str = "records with numbers of FF";
+/// Of [`ALSO`]: banded steps of all sizes.
+pub const BANDED_SIZES: &str = "banded steps of all sizes";
+/// Of [`ALSO`]: residuals, pivots and d of every length.
+pub const BANDED_LENGTHS: &str = "lengths of residuals, pivots and d";
+/// Of [`ALSO`]: residuals of every size at every place.
+pub const RESIDUALS: &str = "residuals of every size";
+/// Of [`ALSO`]: tapes whose first d is a half.
+pub const HALF_D: &str = "first d half a unit off a whole number";
+/// Of [`ALSO`]: tapes with command 51 and weights of 0, and what comes before and after 18.
+pub const WEIGHTLESS: &str = "weights of 0 with command 51";
+/// Of [`ALSO`]: tapes with two of the commands 50 and 51.
+pub const TWO_SEARCHES: &str = "two of the commands 50 and 51";
+/// Of [`ALSO`]: tapes of the generated residuals.
+pub const DRAWN_BANDED: &str = "drawn tapes for the banded step";
 /// Of [`ALSO`]: entries beside every number and every half.
 pub const ENTRIES: &str = "entries beside numbers, halves and powers of two";
 /// Of [`ALSO`]: models with slices of every length, and of sizes beside the range.
@@ -81,7 +107,7 @@ pub const FAULTY_ENTRIES: &str = "faulty entries of models";
 pub const IMPORTED: &str = "imported models read from a tape";
 
 /// The names under [`ALSO`].
-const ALSO_NAMES: [&str; 27] = [
+const ALSO_NAMES: [&str; 34] = [
     CUT,
     JUDGED,
     TAPE_LENGTHS,
@@ -105,6 +131,13 @@ const ALSO_NAMES: [&str; 27] = [
     DRAWN_DUTIES,
     RECORD_SIZES,
     RECORD_NUMBERS,
+    BANDED_SIZES,
+    BANDED_LENGTHS,
+    RESIDUALS,
+    HALF_D,
+    WEIGHTLESS,
+    TWO_SEARCHES,
+    DRAWN_BANDED,
     ENTRIES,
     MODEL_LENGTHS,
     FAULTY_ENTRIES,
@@ -139,9 +172,9 @@ impl Comparison {
         counts.expect(tune::GAP_RAISED, answers(&["proved"], &[]));
         counts.expect(tune::LIMITS_NARROWED, answers(&["impossible"], &[]));
         counts.expect(ALSO, ALSO_NAMES.map(str::to_string));
-        let refusals = [1, 2, 3, 4, 5, 6, 7, 8];
         let curves = [NO_CURVE, SOME_CURVES, ALL_CURVES];
-        counts.expect(REFERENCES, answers(&curves, &refusals));
+        counts.expect(REFERENCES, answers(&curves, &TAPE_REFUSALS));
+        counts.expect(STEP, answers(&STEP_NAMES, &TAPE_REFUSALS));
         counts.expect(STEPS, step_refusals());
         counts.expect_reports();
         counts.expect_given();
@@ -150,9 +183,11 @@ impl Comparison {
         counts.expect(records::AT_THE_EDGES, records::names());
         counts.expect_ranges();
         counts.expect(ranges::AT_THE_EDGES, ranges::names());
+        counts.expect_banded();
+        counts.expect(banded::AT_THE_EDGES, banded::names());
         counts.expect(
             "slip",
-            answers(&["proved", "impossible", "open"], &refusals),
+            answers(&["proved", "impossible", "open"], &TAPE_REFUSALS),
         );
         Comparison {
             counts,
@@ -257,13 +292,23 @@ impl Comparison {
         Ok(())
     }
 
+    /// What was tried, as a text.
+    pub fn text(&self) -> String {
+        self.counts.text_of(is_compared)
+    }
+
     /// Fails where a count is 0, but for [`NEVER`].
     pub fn require_all(&self) -> Result<(), String> {
         let mut counts = self.counts.clone();
         let (heading, name) = NEVER;
         counts.add(heading, name);
-        counts.require_all()
+        counts.require(is_compared)
     }
+}
+
+/// Does a comparison count under this heading?
+fn is_compared(heading: &str) -> bool {
+    !NOT_COMPARED.contains(&heading)
 }
 
 /// The name of a slip in the counts: its first line up to the refusal's number.

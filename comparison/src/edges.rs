@@ -7,7 +7,9 @@ use reference::generate::commands::of_furnace;
 use reference::generate::furnaces::{limits, plain};
 use reference::generate::{lent, Lent, Random};
 use reference::model::Furnace;
-use reference::tape::{operand_bytes, MOST_INPUTS, MOST_STATES, MOST_STEPS, NUMBER_RANGE};
+use reference::tape::{
+    operand_bytes, BANDED_SEARCH, MOST_INPUTS, MOST_STATES, MOST_STEPS, NUMBER_RANGE, SEARCH,
+};
 
 use crate::calls::{Call, Lending};
 use crate::comparison::{
@@ -45,6 +47,17 @@ pub fn put_curves(furnace: &mut Furnace, random: &mut Random) {
     }
 }
 
+/// The commands with a 51 in place of the 50.
+fn banded(commands: &[Vec<u8>]) -> Vec<Vec<u8>> {
+    let mut commands = commands.to_vec();
+    for command in &mut commands {
+        if command[0] == SEARCH {
+            command[0] = BANDED_SEARCH;
+        }
+    }
+    commands
+}
+
 /// A plan and multipliers for the longest tape.
 fn longest_lent(random: &mut Random) -> Lent {
     lent::any_values(
@@ -55,15 +68,17 @@ fn longest_lent(random: &mut Random) -> Lent {
 }
 
 /// All calls on tapes of every length from 0 to beyond the longest: the fronts of a longest tape
-/// that goes on behind its end, and noise.
+/// that goes on behind its end, with command 50 and with 51, and noise.
 pub fn add_tapes(comparison: &mut Comparison) {
     let mut random = Random::new(SEED);
-    let mut bytes = longest(&mut random).concat();
-    bytes.extend((0..2 * BEYOND).map(|_| random.byte()));
+    let commands = longest(&mut random);
+    let behind: Vec<u8> = (0..2 * BEYOND).map(|_| random.byte()).collect();
+    let bytes = [&commands.concat()[..], &behind].concat();
+    let banded = [&banded(&commands).concat()[..], &behind].concat();
     let noise: Vec<u8> = (0..bytes.len()).map(|_| random.byte()).collect();
     let sized_noise = [&bytes[..4], &noise].concat();
     let lent = longest_lent(&mut random);
-    for bytes in [bytes, noise, sized_noise] {
+    for bytes in [bytes, banded, noise, sized_noise] {
         for length in 0..=LONGEST + BEYOND {
             let (tape, behind) = bytes.split_at(length);
             for call in Call::ALL {
@@ -81,24 +96,27 @@ pub fn add_tapes(comparison: &mut Comparison) {
 }
 
 /// All calls on the longest tape with a command changed, each of them in turn: left out, given once
-/// more before FF, and alone of those that begin as it does, so that a curve has one step only.
+/// more before FF, and alone of those that begin as it does, so that a curve has one step only. Once
+/// with command 50, and once with 51.
 pub fn add_places(comparison: &mut Comparison) {
     let mut random = Random::new(SEED);
     let commands = longest(&mut random);
     let lent = longest_lent(&mut random);
-    for place in 0..commands.len() {
-        for tape in [
-            left_out(&commands, place),
-            given_again(&commands, place),
-            alone(&commands, place),
-        ] {
-            for call in Call::ALL {
-                let lending = Lending::new(PLACES, &tape, &lent.plan, &lent.multipliers);
-                comparison.also(call, &lending);
+    for commands in [banded(&commands), commands] {
+        for place in 0..commands.len() {
+            for tape in [
+                left_out(&commands, place),
+                given_again(&commands, place),
+                alone(&commands, place),
+            ] {
+                for call in Call::ALL {
+                    let lending = Lending::new(PLACES, &tape, &lent.plan, &lent.multipliers);
+                    comparison.also(call, &lending);
+                }
             }
-        }
-        if comparison.ends() {
-            return;
+            if comparison.ends() {
+                return;
+            }
         }
     }
 }
@@ -232,12 +250,12 @@ pub fn add_slips(comparison: &mut Comparison) {
     }
 }
 
-/// One command of each kind that the tape has, and bytes that are no command. Command 50 is the
-/// longest that can follow, with 9 bytes.
+/// One command of each kind that the tape has, a 51, and bytes that are no command. Commands 50 and 51
+/// are the longest that can follow, with 9 bytes.
 fn following(commands: &[Vec<u8>]) -> Vec<Vec<u8>> {
     let mut kinds: BTreeMap<u8, Vec<u8>> = BTreeMap::new();
-    for command in commands {
-        kinds.entry(command[0]).or_insert_with(|| command.clone());
+    for command in [commands, &banded(commands)].concat() {
+        kinds.entry(command[0]).or_insert(command);
     }
     let unknown = (0..=255).filter(|byte| operand_bytes(*byte).is_none());
     kinds.extend(unknown.step_by(50).map(|byte| (byte, vec![byte])));
@@ -274,14 +292,25 @@ mod tests {
     }
 
     #[test]
-    fn a_second_50_after_the_longest_tape() {
+    fn a_second_50_or_51_after_the_longest_tape() {
         let commands = longest(&mut Random::new(SEED));
-        let mut tape = commands.concat();
-        assert_eq!(tape.pop(), Some(0xff));
-        let again = following(&commands).into_iter().find(|c| c[0] == 0x50);
-        tape.extend(again.expect("every tape has a 50"));
-        assert_eq!(tape.len(), 1_072);
-        assert_eq!(reference::slip(&tape), "refused 6 at 1063\n");
-        assert_eq!(reference::slip(&tape[..1_071]), "refused 1 at 1063\n");
+        for byte in [SEARCH, BANDED_SEARCH] {
+            let mut tape = commands.concat();
+            assert_eq!(tape.pop(), Some(0xff));
+            let again = following(&commands).into_iter().find(|c| c[0] == byte);
+            tape.extend(again.expect("both follow"));
+            assert_eq!(tape.len(), 1_072);
+            assert_eq!(reference::slip(&tape), "refused 6 at 1063\n");
+            assert_eq!(reference::slip(&tape[..1_071]), "refused 1 at 1063\n");
+        }
+    }
+
+    #[test]
+    fn the_longest_tape_may_have_a_51() {
+        let commands = longest(&mut Random::new(SEED));
+        let tape = banded(&commands).concat();
+        assert_eq!(tape.len(), LONGEST);
+        assert_eq!(reference::read_step(&tape), Ok(1));
+        assert_eq!(reference::read_step(&commands.concat()), Ok(0));
     }
 }

@@ -52,8 +52,8 @@ impl Cell for i64 {
 
 impl Cell for f64 {
     fn mark(place: usize) -> f64 {
-        // Not a number, which no leftover is.
-        f64::from_bits(0x7ff8_5a5a_0000_0000 + place as u64)
+        // Beyond 10^127, which no leftover, no pivot and no d is.
+        f64::from_bits(0x5a5a_5a5a_0000_0000 + place as u64)
     }
 
     fn bits(self) -> u64 {
@@ -69,6 +69,13 @@ pub fn marks<T: Cell>(count: usize) -> Vec<T> {
 /// The bits of all cells.
 pub fn bits<T: Cell>(cells: &[T]) -> Vec<u64> {
     cells.iter().map(|cell| cell.bits()).collect()
+}
+
+/// The bits of all floats, with the same ones for every NaN: which of them an operation gives is not
+/// settled.
+pub fn float_bits(floats: &[f64]) -> Vec<u64> {
+    let settled = |float: &f64| if float.is_nan() { f64::NAN } else { *float };
+    floats.iter().map(|float| settled(float).bits()).collect()
 }
 
 /// Do the cells have the same bits?
@@ -161,5 +168,14 @@ mod tests {
         assert!(guarded.all_hold());
         guarded.lent_mut()[1] = -0.0;
         assert!(guarded.guards_hold() && !guarded.all_hold());
+    }
+
+    #[test]
+    fn one_nan_is_like_another() {
+        let signed = [f64::NAN, -f64::NAN, f64::from_bits(0x7ff0_0000_0000_0001)];
+        assert_eq!(float_bits(&signed), [f64::NAN.to_bits(); 3]);
+        assert_ne!(float_bits(&[0.0]), float_bits(&[-0.0]));
+        let marks: Vec<f64> = marks(100);
+        assert_eq!(float_bits(&marks), bits(&marks));
     }
 }

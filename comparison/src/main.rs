@@ -1,6 +1,7 @@
 //! The program `comparison`: see `comparison --help`.
 #![forbid(unsafe_code)]
 
+mod banded;
 mod benchmark;
 mod calls;
 mod cases;
@@ -30,16 +31,18 @@ comparison: the planner against the second program
 
 comparison compare [COUNT [SEED]]
     Makes COUNT (20000) cases from the seeds SEED (0), SEED + 1, .., and for each seed a tape that
-    gives a drawn set of places, 10 first duties, 50 entries and 2 models in floats, by the second
-    program's generators and runs them through the ten calls of libplanner.a and through the second
-    program; before them tapes, slices and models of every length, tapes without each of the
-    required places, squares of slopes beyond 64 bits at every weight, plans with faults at every
-    step and column, gaps of T and one above, tapes with weights of 0 at the edges, first duties at
-    the edges of their ranges, records of every size and with numbers that look absent, entries
-    beside every number and every half, and inputs of the program slip. Every number of every answer
-    and of everything lent is compared, refusals included, with guard cells around what is lent,
-    floats bit by bit, records byte by byte; so are the words of a report and of a range and the
-    text of the program slip. Records are lent slices of wrong lengths too. Says every 10000 tapes
+    gives a drawn set of places, 10 first duties, a tape with residuals for the banded step, 50
+    entries and 2 models in floats, by the second program's generators and runs them through the
+    twelve calls of libplanner.a and through the second program; before them tapes, slices and
+    models of every length, tapes without each of the required places, squares of slopes beyond 64
+    bits at every weight, plans with faults at every step and column, gaps of T and one above, tapes
+    with weights of 0 at the edges, first duties at the edges of their ranges, records of every size
+    and with numbers that look absent, banded steps of every size with residuals of every size,
+    entries beside every number and every half, and inputs of the program slip. Every number of
+    every answer and of everything lent is compared, refusals included, with guard cells around what
+    is lent, floats bit by bit, but one NaN like another, records byte by byte; so are the words of
+    a report and of a range and the text of the program slip. Records and banded steps are lent
+    slices of wrong lengths too. Says every 10000 tapes
     on standard error where it is. Prints how often each answer and each refusal came, and each
     difference with its origin, everything lent and the command that repeats it. Fails if something
     differs or if a count is 0, which is to be expected of a small COUNT; only `third, gap 0, two
@@ -52,8 +55,8 @@ comparison compare-here COUNT SEED
 
 comparison replay PART
     Repeats one part of a comparison: the case of a seed, where PART is a number, and its tape that
-    gives a drawn set of places (given-4711, say), first duties (ranges-4711), entries
-    (entries-4711) and models (models-4711); inputs of the program slip (slips), tapes of every
+    gives a drawn set of places (given-4711, say), first duties (ranges-4711), tape with residuals
+    (banded-4711), entries (entries-4711) and models (models-4711); inputs of the program slip (slips), tapes of every
     length (tapes), the longest tape with a command left out, given again or alone (places), tapes
     of the largest sizes with all curves that lack one required place, two neighbours or more
     (missing), plans and multipliers of every length (slices), floors at the ceiling (equal),
@@ -62,12 +65,16 @@ comparison replay PART
     other numbers at their limits and with one number a column (weights), tapes made so that a first
     duty has each piece, limits from one number to the widest, gaps from the least to the widest,
     and ends at whole numbers and limits and just beyond (ranges), records of every size, with
-    numbers of FF throughout, and with the widest gap (records), entries beside numbers, halves and
-    powers of two (entries), models of every length and with a faulty entry at every place (models).
+    numbers of FF throughout, and with the widest gap (records), banded steps of all sizes, of zones
+    that heat each other most and of tapes that fall back on g, with residuals of every size at
+    every place and slices of every length, and weights of 0 with command 51 (banded), entries
+    beside numbers, halves and powers of two (entries), models of every length and with a faulty
+    entry at every place (models).
 
 comparison memory [COUNT [SEED]]
-    Compares COUNT (200) cases, tapes with drawn places, first duties, and entries and models, with
-    each thing that is lent in a block of just its size. Under valgrind, which then sees any read or
+    Compares COUNT (200) cases, tapes with drawn places, first duties, banded steps, and entries and
+    models, from the seeds SEED (400), SEED + 1, .., with each thing that is lent in a block of just
+    its size. Under valgrind, which then sees any read or
     write outside what is lent:
         valgrind -q --error-exitcode=1 target/release/comparison memory
 
@@ -99,8 +106,8 @@ fn run(words: &[&str]) -> Result<ExitCode, String> {
         ["compare", count, seed] => return compare::compare(number(count)?, number(seed)?),
         ["compare-here", count, seed] => compare::compare_here(number(count)?, number(seed)?)?,
         ["replay", part] => compare::replay(part.parse()?)?,
-        ["memory"] => memory::memory(200, 0)?,
-        ["memory", count] => memory::memory(number(count)?, 0)?,
+        ["memory"] => memory::memory(200, memory::SEED)?,
+        ["memory", count] => memory::memory(number(count)?, memory::SEED)?,
         ["memory", count, seed] => memory::memory(number(count)?, number(seed)?)?,
         ["benchmark"] => benchmark::benchmark(20)?,
         ["benchmark", count] => benchmark::benchmark(number(count)?.max(1) as usize)?,

@@ -28,6 +28,9 @@ pub enum Part {
     Ranges,
     /// Records of all sizes, and with numbers that look absent.
     Records,
+    /// Banded steps of all sizes, with residuals of every size and slices of every length, and
+    /// weights of 0 with command 51.
+    Banded,
     /// Entries beside numbers, halves and powers of two.
     Entries,
     /// Models of every length, and with a faulty entry at every place.
@@ -38,6 +41,8 @@ pub enum Part {
     GivenOf(u64),
     /// The ranges of a seed's duties.
     RangesOf(u64),
+    /// The tapes and residuals of a seed for the banded step.
+    BandedOf(u64),
     /// The entries of a seed.
     EntriesOf(u64),
     /// The models of a seed.
@@ -46,7 +51,7 @@ pub enum Part {
 
 impl Part {
     /// All that have no seed.
-    pub const EDGES: [Part; 13] = [
+    pub const EDGES: [Part; 14] = [
         Part::Slips,
         Part::Tapes,
         Part::Places,
@@ -58,16 +63,18 @@ impl Part {
         Part::Weights,
         Part::Ranges,
         Part::Records,
+        Part::Banded,
         Part::Entries,
         Part::Models,
     ];
 
     /// The parts of a seed.
-    pub fn of_seed(seed: u64) -> [Part; 5] {
+    pub fn of_seed(seed: u64) -> [Part; 6] {
         [
             Part::Case(seed),
             Part::GivenOf(seed),
             Part::RangesOf(seed),
+            Part::BandedOf(seed),
             Part::EntriesOf(seed),
             Part::ModelsOf(seed),
         ]
@@ -97,11 +104,13 @@ impl fmt::Display for Part {
             Part::Weights => f.write_str("weights"),
             Part::Ranges => f.write_str("ranges"),
             Part::Records => f.write_str("records"),
+            Part::Banded => f.write_str("banded"),
             Part::Entries => f.write_str("entries"),
             Part::Models => f.write_str("models"),
             Part::Case(seed) => write!(f, "{seed}"),
             Part::GivenOf(seed) => write!(f, "given-{seed}"),
             Part::RangesOf(seed) => write!(f, "ranges-{seed}"),
+            Part::BandedOf(seed) => write!(f, "banded-{seed}"),
             Part::EntriesOf(seed) => write!(f, "entries-{seed}"),
             Part::ModelsOf(seed) => write!(f, "models-{seed}"),
         }
@@ -140,6 +149,7 @@ mod tests {
             "given",
             "entries-",
             "slips-4",
+            "banded-",
             "models-4-5",
             "007",
         ] {

@@ -10,6 +10,7 @@ use reference::record::{Kind, Outcome, Record};
 use reference::{Entry, Fault, Refusal, Report, Solved, Whole};
 
 use crate::calls::{narrow, narrow_all, Answer, Call, Left, Lending};
+use crate::guard::float_bits;
 
 /// What the wrapper says, as a text, where it differs from the second program.
 pub fn difference(call: Call, lending: &Lending, answer: &Answer, left: &Left) -> Option<String> {
@@ -21,6 +22,9 @@ pub fn difference(call: Call, lending: &Lending, answer: &Answer, left: &Left) -
             other(found, expected, |found, end| *found == as_planner(*end))
         }
         (Call::Record, Answer::Recorded(expected)) => record_difference(lending, expected, left),
+        (Call::BandedCorrection, Answer::Corrected(expected)) => {
+            correction_difference(lending, expected, left)
+        }
         _ => answer_difference(call, lending, answer),
     };
     if other_answer.is_none() && plan == left.plan && multipliers == left.multipliers {
@@ -44,6 +48,11 @@ fn answer_difference(call: Call, lending: &Lending, answer: &Answer) -> Option<S
         (Call::ReadReferences, Answer::References(expected)) => {
             other(planner::read_references(tape), expected, |found, read| {
                 references(found) == narrow_all(reference_numbers(read))
+            })
+        }
+        (Call::ReadStep, Answer::Step(expected)) => {
+            other(planner::read_step(tape), expected, |found, step| {
+                *found as i64 == narrow(*step)
             })
         }
         (Call::JudgePlan, Answer::Gap(expected)) => {
@@ -203,6 +212,28 @@ fn record_difference(
     Some(format!(
         "{found:?}, laboratory {laboratory:?}, service {service:?}, read as {seen:?}, {record:?}"
     ))
+}
+
+/// What the wrapper shows of a banded step, as a text, where it differs from the second program. It
+/// lends places for pivots and d by itself, as many as there are residuals: with another number of
+/// them it cannot be asked.
+fn correction_difference(
+    lending: &Lending,
+    expected: &Result<Whole, Refusal>,
+    left: &Left,
+) -> Option<String> {
+    let residuals = lending.residuals(Call::BandedCorrection);
+    if lending.floats != [residuals.len(); 2] {
+        return None;
+    }
+    let found = planner::banded_correction(lending.tape, &residuals);
+    other(found, expected, |found, expected| match found {
+        Some(found) => {
+            let bits = [float_bits(&found.pivots), float_bits(&found.d)];
+            *expected == 1 && bits == [&left.pivots[..], &left.correction]
+        }
+        None => *expected == 0,
+    })
 }
 
 /// Does the wrapper read a record's bytes as the record that the second program wrote? It has no

@@ -1,8 +1,9 @@
-//! The public calls of document 01. Each takes the tape's bytes.
+//! The public calls of document 01, and the two of request 9 in document 02. Each takes the tape's bytes.
 
+use crate::banded::Elimination;
 use crate::faults::faults;
 use crate::floor::{floor, gap, shows_impossibility, Multipliers, MULTIPLIER_RANGE};
-use crate::model::{cost, Furnace, Plan, Whole};
+use crate::model::{cost, Correction, Furnace, Plan, Whole};
 use crate::refusal::Refusal;
 use crate::rounds::{run, Outcome, Round};
 use crate::tape::{self, MOST_INPUTS};
@@ -107,6 +108,44 @@ pub fn solve_traced(
             rounds: furnace.rounds,
         }),
     }
+}
+
+/// Which step the tape asks for: 0 for command 50, 1 for command 51.
+pub fn read_step(tape: &[u8]) -> Result<Whole, Refusal> {
+    Ok(match read(tape)?.correction {
+        Correction::Gain => 0,
+        Correction::Banded => 1,
+    })
+}
+
+/// Residuals lent to [`banded_correction`] are at most 2^40 in size.
+pub const RESIDUAL_RANGE: i64 = 1 << 40;
+
+/// The banded step alone: 1, with the pivots and the d of these residuals written in the order of the
+/// rows; 0, with nothing written, where the tape has command 50 or falls back on g. A refusal writes
+/// nothing.
+pub fn banded_correction(
+    tape: &[u8],
+    residuals: &[i64],
+    pivots: &mut [f64],
+    correction: &mut [f64],
+) -> Result<Whole, Refusal> {
+    let furnace = read(tape)?;
+    let lengths = [residuals.len(), pivots.len(), correction.len()];
+    if lengths != [furnace.multipliers_length(); 3] {
+        return Err(Refusal::Length);
+    }
+    let in_range = |e: &i64| (-RESIDUAL_RANGE..=RESIDUAL_RANGE).contains(e);
+    if !residuals.iter().all(in_range) {
+        return Err(Refusal::ArgumentOutOfRange);
+    }
+    let Some(elimination) = Elimination::of_tape(&furnace) else {
+        return Ok(0);
+    };
+    let residuals: Vec<Whole> = residuals.iter().copied().map(Whole::from).collect();
+    pivots.copy_from_slice(&elimination.pivots());
+    correction.copy_from_slice(&elimination.correction(&residuals));
+    Ok(1)
 }
 
 /// Refusal 9 for the plan.

@@ -17,6 +17,10 @@
 //! gives two numbers for each part, and `root` the least number from 0 whose square is at or above the
 //! part's, which is below 2^64.
 //!
+//! `banded` says which step a tape asks for, `pivot` whether a float can be used as one, and `next` what
+//! a d makes of a multiplier y. `correction` lends pivots and d as many places as there are residuals,
+//! each with [`LENT_FLOAT`] in it. Pivots and d are written as the numbers of their bits, or `nan`.
+//!
 //! ```text
 //! read HEX
 //! steps HEX
@@ -28,6 +32,10 @@
 //! model HEX / n m a_len b_len out_len
 //! missing HEX / n m N
 //! count HEX
+//! banded HEX
+//! pivot HEX
+//! next HEX / y
+//! correction HEX / residuals
 //! quotient dividend divisor / ..
 //! quotient_up dividend divisor / ..
 //! limit number lo hi / ..
@@ -41,12 +49,16 @@
 use std::any::type_name;
 use std::str::FromStr;
 
-use crate::calls::{judge_multipliers, judge_plan, read, solve, Shown, Solved};
+use crate::calls::{
+    banded_correction, judge_multipliers, judge_plan, read, read_step, solve, Shown, Solved,
+};
+use crate::floor::MULTIPLIER_RANGE;
 use crate::import::{import_entry, import_model, Entry};
 use crate::marks::{count_missing, Marks, Sizes};
 use crate::model::{ceil_div, floor_div, Column, Furnace, Whole};
 use crate::range::{range, ranges, Range};
 use crate::refusal::{Fault, Refusal};
+use crate::rounds::{next_multiplier, usable};
 use crate::tape::{
     signed, unsigned, MOST_COLUMNS, MOST_INPUTS, MOST_STATES, MOST_STEPS, MOST_WEIGHT, NUMBER_RANGE,
 };
@@ -98,14 +110,40 @@ fn answer(line: &str) -> Result<String, String> {
         ("model", [entries, lengths]) => imported_model(entries, lengths),
         ("missing", [marks, sizes]) => missing_places(marks, sizes),
         ("count", [words]) => missing_bits(words),
+        ("banded", [tape]) => {
+            let answer = read_step(&bytes(tape)?);
+            Ok(answer.map_or_else(refused, |step| listed("step", [step])))
+        }
+        ("pivot", [pivot]) => {
+            let is_usable = usable(one_float("pivot", pivot)?);
+            Ok(listed("usable", [u8::from(is_usable)]))
+        }
+        ("next", [d, y]) => {
+            let d = one_float("next", d)?;
+            Ok(listed("next", [next_multiplier(multiplier(y)?, d)]))
+        }
+        ("correction", [tape, residuals]) => corrected(&bytes(tape)?, &numbers(residuals)?),
         _ if CALLS.contains(&call) => Err(format!("`{call}` has another number of parts")),
         _ => whole_numbers(call, &parts),
     }
 }
 
 /// The words of all cases but those of whole numbers.
-const CALLS: [&str; 10] = [
-    "read", "steps", "judge", "ranges", "show", "solve", "entry", "model", "missing", "count",
+const CALLS: [&str; 14] = [
+    "read",
+    "steps",
+    "judge",
+    "ranges",
+    "show",
+    "solve",
+    "entry",
+    "model",
+    "missing",
+    "count",
+    "banded",
+    "pivot",
+    "next",
+    "correction",
 ];
 
 /// The output lines of a solve: the answer, and what the slices hold then.
@@ -125,10 +163,7 @@ const BEFORE: u8 = 7;
 
 /// The output line of an imported entry. The leftover is written as the number of its bits.
 fn imported_entry(entry: &str) -> Result<String, String> {
-    let [entry] = floats(entry)?[..] else {
-        return Err("`entry` has one float".to_string());
-    };
-    Ok(match import_entry(entry) {
+    Ok(match import_entry(one_float("entry", entry)?) {
         Ok(Entry::Whole(number)) => format!("whole {number}\n"),
         Ok(Entry::Near { number, leftover }) => format!("near {number} {}\n", leftover.to_bits()),
         Err(refusal) => refused(refusal),
@@ -211,6 +246,52 @@ fn missing_bits(words: &str) -> Result<String, String> {
 /// Is the bit at this place 1? The lowest bit of the first byte is place 0.
 fn bit(bytes: &[u8], place: usize) -> bool {
     bytes[place / 8] >> (place % 8) & 1 == 1
+}
+
+/// The float that every place of lent pivots and d holds before a correction.
+pub const LENT_FLOAT: f64 = 7.0;
+
+/// The output line of a banded correction: the answer, and what pivots and d hold then.
+fn corrected(tape: &[u8], residuals: &[i32]) -> Result<String, String> {
+    let residuals: Vec<i64> = residuals.iter().copied().map(i64::from).collect();
+    let mut pivots = vec![LENT_FLOAT; residuals.len()];
+    let mut d = pivots.clone();
+    Ok(
+        match banded_correction(tape, &residuals, &mut pivots, &mut d) {
+            Ok(out) => {
+                let slash = || vec!["/".to_string()];
+                let words = [
+                    slash(),
+                    floats_as_words(&pivots),
+                    slash(),
+                    floats_as_words(&d),
+                ];
+                listed(&format!("correction {out}"), words.concat())
+            }
+            Err(refusal) => refused(refusal),
+        },
+    )
+}
+
+/// Each float as the number of its bits, or `nan`: what is not a number has bits of several kinds.
+fn floats_as_words(floats: &[f64]) -> Vec<String> {
+    let word = |float: &f64| {
+        if float.is_nan() {
+            "nan".to_string()
+        } else {
+            float.to_bits().to_string()
+        }
+    };
+    floats.iter().map(word).collect()
+}
+
+/// A multiplier, which is within its range.
+fn multiplier(text: &str) -> Result<Whole, String> {
+    let [y] = of_part(text)?;
+    if y.abs() > MULTIPLIER_RANGE {
+        return Err(format!("{y} is no multiplier"));
+    }
+    Ok(y)
 }
 
 /// The output line of a case of whole numbers: the result of each part.
@@ -453,6 +534,14 @@ fn floats(text: &str) -> Result<Vec<f64>, String> {
     }
     let bits = patterns.iter().map(|pattern| u64::from_be_bytes(*pattern));
     Ok(bits.map(f64::from_bits).collect())
+}
+
+/// The only float of a case.
+fn one_float(call: &str, text: &str) -> Result<f64, String> {
+    let [float] = floats(text)?[..] else {
+        return Err(format!("`{call}` has one float"));
+    };
+    Ok(float)
 }
 
 /// Numbers of the type with blanks between them.

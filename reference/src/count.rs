@@ -1,5 +1,6 @@
 //! Counts of what the generated cases lead to, by call.
 
+mod banded;
 mod given;
 mod import;
 mod quotient;
@@ -7,6 +8,7 @@ mod range;
 mod record;
 mod report;
 
+pub use banded::BANDED;
 pub use given::GIVEN;
 pub use import::IMPORTS;
 pub use quotient::QUOTIENTS;
@@ -83,21 +85,12 @@ impl Counts {
     pub fn of_calls() -> Counts {
         let mut counts = Counts::default();
         counts.expect("tape", Kind::ALL.map(|kind| format!("{kind:?}")));
-        counts.expect("read", answers(&["accepted"], &[1, 2, 3, 4, 5, 6, 7, 8]));
+        counts.expect("read", answers(&["accepted"], &TAPE_REFUSALS));
         let curves = ["on no column", "on some columns", "on all columns"];
         counts.expect(CURVES, curves.map(str::to_string));
-        counts.expect(
-            "judge plan",
-            answers(&["gap"], &[1, 2, 3, 4, 5, 6, 7, 8, 9, 10, 11, 12, 13]),
-        );
-        counts.expect(
-            "judge multipliers",
-            answers(&["shown"], &[1, 2, 3, 4, 5, 6, 7, 8, 9, 12, 14]),
-        );
-        counts.expect(
-            "solve",
-            answers(&["proved", "impossible"], &[1, 2, 3, 4, 5, 6, 7, 8, 9, 15]),
-        );
+        counts.expect("judge plan", tape_answers(&["gap"], &[9, 10, 11, 12, 13]));
+        counts.expect("judge multipliers", tape_answers(&["shown"], &[9, 12, 14]));
+        counts.expect("solve", tape_answers(&["proved", "impossible"], &[9, 15]));
         for answer in ["proved", "impossible"] {
             let heading = |what: &str| format!("{answer}, {what}");
             // Round 0 has multipliers 0, whose floor is at most the ceiling: 'impossible' never
@@ -239,6 +232,7 @@ impl Counts {
         let furnace = read(tape);
         self.add_read(&furnace);
         self.add_steps(tape, &furnace);
+        self.add_search(tape, &furnace);
         for lent in &case.judged {
             let judged = judge_plan(tape, &lent.plan, &lent.multipliers);
             self.add_gap(judged);
@@ -258,6 +252,7 @@ impl Counts {
             let (solved, rounded_down) = solve_both(tape, &mut plan, &mut multipliers);
             self.add_solved(solved, &furnace);
             self.add_solved_quotients(solved, &rounded_down);
+            self.add_banded_solve(&furnace, solved);
             self.add_slip_ranges(&furnace, &multipliers, solved);
             let sizes = furnace.as_ref().ok().map(Sizes::of);
             let of_solve = |sizes| Record::of_solve(sizes, solved, &plan, &multipliers).ok();
@@ -337,6 +332,14 @@ pub fn answers(words: &[&str], refusals: &[u32]) -> Vec<String> {
         .collect()
 }
 
+/// The refusals of a tape.
+const TAPE_REFUSALS: [u32; 9] = [1, 2, 3, 4, 5, 6, 7, 8, 18];
+
+/// The names of a call's answers, of a tape's refusals and of its own ones.
+fn tape_answers(words: &[&str], refusals: &[u32]) -> Vec<String> {
+    answers(words, &[&TAPE_REFUSALS, refusals].concat())
+}
+
 /// The names under [`STEPS`].
 pub fn step_refusals() -> Vec<String> {
     answers(&[], &[1, 3, 4, 5, 6, 7])
@@ -360,18 +363,30 @@ fn is_for_a_step(tape: &[u8], refusal: Refusal) -> bool {
 
 /// A tape whose commands are whole up to FF, without its commands 31.
 fn without_steps(tape: &[u8]) -> Vec<u8> {
-    let mut kept = Vec::new();
+    let commands = whole_commands(tape);
+    let end: usize = commands.iter().map(|command| command.len()).sum();
+    let kept = commands.into_iter();
+    let kept = kept.filter(|command| command[0] != STEP_REFERENCE);
+    let kept: Vec<&[u8]> = kept.chain([&tape[end..]]).collect();
+    kept.concat()
+}
+
+/// The commands from the front, up to FF or to the first that is not whole.
+fn whole_commands(tape: &[u8]) -> Vec<&[u8]> {
+    let mut commands = Vec::new();
     let mut rest = tape;
-    while rest[0] != END {
-        let operands = operand_bytes(rest[0]).expect("a known command");
-        let (command, behind) = rest.split_at(1 + operands);
-        if command[0] != STEP_REFERENCE {
-            kept.extend(command);
-        }
-        rest = behind;
+    while let Some(command) = whole_command(rest) {
+        commands.push(command);
+        rest = &rest[command.len()..];
     }
-    kept.extend(rest);
-    kept
+    commands
+}
+
+/// The first command; none where it is FF, unknown or not whole.
+fn whole_command(tape: &[u8]) -> Option<&[u8]> {
+    let command = *tape.first()?;
+    let operands = operand_bytes(command).filter(|_| command != END)?;
+    tape.get(..1 + operands)
 }
 
 /// The numbers from 1 to `most` as names.
@@ -389,12 +404,14 @@ pub fn count_cases(count: u64, first_seed: u64) -> Counts {
     counts.expect_records();
     counts.expect_quotients();
     counts.expect_ranges();
+    counts.expect_banded();
     for place in 0..count {
         let seed = first_seed.wrapping_add(place);
         counts.add_case(&case(seed));
         counts.add_given_of(seed);
         counts.add_imports(seed);
         counts.add_duties(seed);
+        counts.add_lendings(seed);
     }
     counts
 }

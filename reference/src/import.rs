@@ -5,7 +5,8 @@
 //! number and a power of two, the fraction that they make is rounded in whole numbers, and the
 //! leftover is put together bit by bit.
 
-use crate::model::{floor_div, Whole};
+use crate::float::{float, parts, rounded, Parts, SMALL_POWER};
+use crate::model::Whole;
 use crate::refusal::Refusal;
 use crate::tape::{ENTRY_RANGE, INPUT_ENTRY, MOST_INPUTS, MOST_STATES, STATE_ENTRY};
 
@@ -14,21 +15,6 @@ const COMMAND_BYTES: usize = 5;
 
 /// 4096 is 2^12.
 const SCALE_POWER: i32 = 12;
-
-/// Digits at a power below this one are worth less than 1/2 in all.
-const SMALL_POWER: i32 = -60;
-
-/// The low bits of a float, which hold all its digits but the first.
-const DIGIT_BITS: u32 = 52;
-
-/// The first digit, which is not written.
-const FIRST_DIGIT: Whole = 1 << DIGIT_BITS;
-
-/// The exponent has 11 bits. All ones is that of infinities and of what is no number.
-const EXPONENTS: u64 = 2048;
-
-/// The power of two of the last digit where the exponent is 0 or 1; one more for each further.
-const LEAST_POWER: i32 = -1074;
 
 /// An imported entry a.
 #[derive(Clone, Copy, Debug, PartialEq)]
@@ -81,13 +67,6 @@ pub fn import_entry(a: f64) -> Result<Entry, Refusal> {
     Ok(Entry::Near { number, leftover })
 }
 
-/// The whole number nearest to `digits` / `unit`, halves upward, and how many times 1 / `unit` is
-/// left over.
-fn rounded(digits: Whole, unit: Whole) -> (Whole, Whole) {
-    let number = floor_div(2 * digits + unit, 2 * unit);
-    (number, digits - number * unit)
-}
-
 /// Imports a model of n states and m inputs: A by rows, then B by rows, each entry as a command 20
 /// or 21 in `out`. A refusal leaves `out` as it was.
 pub fn import_model(
@@ -138,43 +117,4 @@ fn command(byte: u8, i: usize, j: usize, number: Whole) -> [u8; COMMAND_BYTES] {
     let value = number.rem_euclid(0x1_0000);
     let (low, high) = (value % 0x100, value / 0x100);
     [byte, i as u8, j as u8, low as u8, high as u8]
-}
-
-/// A finite float: `digits` × 2^`power`, with `digits` below 2^53 in size. Both zeros have digits 0.
-struct Parts {
-    digits: Whole,
-    power: i32,
-}
-
-/// The parts of a float; none where it is infinite or not a number.
-fn parts(float: f64) -> Option<Parts> {
-    let bits = float.to_bits();
-    let written = Whole::from(bits % (1 << DIGIT_BITS));
-    let exponent = (bits >> DIGIT_BITS) % EXPONENTS;
-    let negative = bits >> 63 == 1;
-    let (size, power) = match exponent {
-        // Zeros and subnormals have no digit that is not written.
-        0 => (written, LEAST_POWER),
-        _ if exponent < EXPONENTS - 1 => (written + FIRST_DIGIT, LEAST_POWER + exponent as i32 - 1),
-        _ => return None,
-    };
-    let digits = if negative { -size } else { size };
-    Some(Parts { digits, power })
-}
-
-/// The float of these parts, whose digits are not 0. It is exact: digits move to the front only.
-fn float(parts: Parts) -> f64 {
-    let Parts { digits, mut power } = parts;
-    let mut size = digits.abs();
-    while size < FIRST_DIGIT && power > LEAST_POWER {
-        size *= 2;
-        power -= 1;
-    }
-    let exponent = match size {
-        ..FIRST_DIGIT => 0,
-        _ => (power - LEAST_POWER + 1) as u64,
-    };
-    let written = (size % FIRST_DIGIT) as u64;
-    let sign = u64::from(digits < 0);
-    f64::from_bits(sign << 63 | exponent << DIGIT_BITS | written)
 }

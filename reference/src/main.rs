@@ -51,13 +51,19 @@ reference expect < CASES
         model HEX / n m a_len b_len out_len
         missing HEX / n m N
         count HEX
+        banded HEX
+        pivot HEX
+        next HEX / y
+        correction HEX / residuals
     A float is the 16 hex digits of its bits, in upper case, the first of them first:
     3FF0000000000000 is 1. `model` has the a_len entries of A and then the b_len entries of B;
     its lent out has out_len bytes, all of them 7. `missing` has 18 bytes of marks: the place
     8j + b is given where bit b of byte j, the lowest being 0, is 1; the places are columns 0 to
     9, start values 0 to 5, the rounds command, then steps 0 to 11 of column 0, of column 1 and
     so on, 137 in all. `count` has 48 bytes: three words of 64 bits of what is asked for, each
-    low byte first, then three of what is given.
+    low byte first, then three of what is given. `banded` and `correction` have a tape, `pivot` and
+    `next` a float. y is a multiplier, and residuals are within 32 bits. A correction is lent as
+    many places for pivots and for d as there are residuals, all of them 7.0.
     Each case gives one line:
         refused NUMBER CARRIED    CARRIED is an offset, R, an entry's count, or - for nothing
         refused 10 STEP COLUMN FOUND DUE    of judge and ranges: the place, the number there,
@@ -81,6 +87,11 @@ reference expect < CASES
         written                   of model
         missing COUNT             required places of these sizes without a mark
         count COUNT               bits that are asked for and not given
+        step STEP                 of banded: 0 for command 50, 1 for command 51
+        usable 0 or usable 1      of pivot
+        next Y                    y plus the whole number nearest to the float, limited
+        correction OUT / PIVOTS / D    what the lent places hold at exit, each float as its bits,
+                                  an unsigned number, or nan; OUT is 1 where they were written
     After the line of a solve, refused or not, come two more lines, `plan ..` and
     `multipliers ..`, with what the slices hold at exit; after that of a model, refused or
     not, a line `out ..` with the bytes that out holds at exit.
@@ -98,15 +109,17 @@ reference expect < CASES
 
 reference generate [COUNT [SEED]]
     Makes COUNT (10000) cases from the seeds SEED (0), SEED + 1, .., and for each seed a tape that
-    gives a drawn set of places, 50 entries and 2 models in floats and 10 columns with slopes and
-    gaps, runs them through the calls and writes how often each answer and each refusal came, how
+    gives a drawn set of places, 50 entries and 2 models in floats, 10 columns with slopes and
+    gaps, a tape with residuals and 10 multipliers with floats to add, runs them through the calls and writes how often each answer and each refusal came, how
     often 'proved' and 'impossible' came by rounds, sizes, rare shapes, curves and weights of 0,
     what a solve came to with these, how often a command 31 brought a refusal about, the first
     faults of plans by kind, side and step, how many faults plans had, gaps at T and one above it,
     how many required places were missing, answers to entries and models by kinds, sizes and rare
     shapes, records by kind, m, rare shapes and wrong lengths, which answers of judging and solving
-    are others since the third piece's quotient is rounded up, and the ranges of first duties and
-    of the columns by pieces, limits that they reach, m and rare shapes. Fails if a count is 0,
+    are others since the third piece's quotient is rounded up, the ranges of first duties and
+    of the columns by pieces, limits that they reach, m and rare shapes, and for the banded step
+    tapes by their command 50 or 51, refusals that these bring about, what solves come to with
+    51, corrections by answers, wrong lengths and rare shapes, next multipliers and pivots. Fails if a count is 0,
     which is to be expected of a small COUNT.
 ";
 

@@ -17,7 +17,7 @@ pub enum Place {
     Column(usize),
     /// Command 40 of a state.
     Start(usize),
-    /// Command 50.
+    /// Command 50 or 51.
     Search,
     /// Command 31 of a column and a step.
     Step(usize, usize),

@@ -75,6 +75,15 @@ impl Column {
     }
 }
 
+/// What step 4 of a round adds to a multiplier.
+#[derive(Clone, Copy, Debug, PartialEq, Eq)]
+pub enum Correction {
+    /// e × g / 65,536: the tape has command 50.
+    Gain,
+    /// The d of W × d = e (request 9): the tape has command 51.
+    Banded,
+}
+
 /// All that a tape gives.
 #[derive(Clone, Debug, PartialEq, Eq)]
 pub struct Furnace {
@@ -97,7 +106,9 @@ pub struct Furnace {
     pub curves: Vec<Option<Vec<Whole>>>,
     /// x(0), the start.
     pub start: Vec<Whole>,
-    /// g, the step size.
+    /// What step 4 adds: whether the tape has command 50 or 51.
+    pub correction: Correction,
+    /// g, the step size. A tape with command 51 falls back on it where W cannot be used.
     pub step_size: Whole,
     /// R, the number of rounds allowed.
     pub rounds: u32,

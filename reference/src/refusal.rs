@@ -1,4 +1,4 @@
-//! The refusals, 1 to 17.
+//! The refusals, 1 to 18.
 
 use crate::model::Whole;
 
@@ -43,9 +43,10 @@ pub enum Refusal {
         /// Of the command byte.
         offset: usize,
     },
-    /// 5 of an import: n or m outside its range. It carries nothing.
+    /// 5 of what is lent beside a tape or without one: n or m of an import outside its range, or a
+    /// residual beyond 2^40 in size. It carries nothing.
     ArgumentOutOfRange,
-    /// 6: the same place, or 50, given again.
+    /// 6: the same place given again, or a 50 or 51 after either.
     Twice {
         /// Of the command byte.
         offset: usize,
@@ -92,6 +93,11 @@ pub enum Refusal {
         /// Its count from 0, A before B; none where an entry is imported alone.
         entry: Option<usize>,
     },
+    /// 18: at FF, a weight is 0 on a tape with command 51.
+    Weightless {
+        /// Of FF.
+        offset: usize,
+    },
 }
 
 impl Refusal {
@@ -116,10 +122,11 @@ impl Refusal {
             Refusal::Open { rounds } => (15, "open", Some(rounds as usize)),
             Refusal::NotFinite { entry } => (16, "not finite", entry),
             Refusal::TooLarge { entry } => (17, "too large", entry),
+            Refusal::Weightless { offset } => (18, "weightless", Some(offset)),
         }
     }
 
-    /// The number, 1 to 17.
+    /// The number, 1 to 18.
     pub fn number(self) -> u32 {
         self.row().0
     }
@@ -129,8 +136,9 @@ impl Refusal {
         self.row().1
     }
 
-    /// An offset for 1 to 8, R for 15, an entry's count for 16 and 17; nothing for 9 to 14, for 5 of
-    /// an import, and for 16 and 17 of an entry alone. What 10, 11 and 13 report is no carried number.
+    /// An offset for 1 to 8 and 18, R for 15, an entry's count for 16 and 17; nothing for 9 to 14, for
+    /// 5 of what is lent, and for 16 and 17 of an entry alone. What 10, 11 and 13 report is no carried
+    /// number.
     pub fn carried(self) -> Option<usize> {
         self.row().2
     }

@@ -1,5 +1,7 @@
 //! The rounds: an accelerated gradient ascent on the multipliers.
 
+use crate::banded::Elimination;
+use crate::float::nearest;
 use crate::floor::{
     ceiling, end_by_slope, floor, input_slope, state_slope, Multipliers, MULTIPLIER_RANGE,
 };
@@ -197,12 +199,12 @@ fn all_residuals(furnace: &Furnace, numbers: &Plan) -> Vec<Vec<Whole>> {
     residuals
 }
 
-/// Step 4: y~ + (e × g + 32,768) / 65,536, the quotient rounded down, then limited.
+/// Step 4 with g: y~ + (e × g + 32,768) / 65,536, the quotient rounded down, then limited.
 pub fn ascent(y_tilde: Whole, e: Whole, g: Whole) -> Whole {
     limit_multiplier(y_tilde + floor_div(e * g + 32_768, 65_536))
 }
 
-/// Step 4 for all multipliers.
+/// Step 4 with g for all multipliers.
 fn all_ascent(furnace: &Furnace, y_tilde: &Multipliers, residuals: &[Vec<Whole>]) -> Multipliers {
     let mut next = y_tilde.clone();
     for k in 0..furnace.horizon {
@@ -213,8 +215,42 @@ fn all_ascent(furnace: &Furnace, y_tilde: &Multipliers, residuals: &[Vec<Whole>]
     next
 }
 
-/// Round k from y and the y before it.
-pub fn round(furnace: &Furnace, k: u32, y: &Multipliers, previous: &Multipliers) -> Round {
+/// Step 4 with d (request 9): y~ plus the whole number nearest to d, halves upward, then limited. A d
+/// that is not finite counts as 0.
+pub fn next_multiplier(y: Whole, d: f64) -> Whole {
+    limit_multiplier(y + nearest(d).unwrap_or(0))
+}
+
+/// Can a pivot be used? It is finite and above 0.
+pub fn usable(pivot: f64) -> bool {
+    pivot.is_finite() && pivot > 0.0
+}
+
+/// Step 4 with d for all multipliers. The rows of an elimination are by step, then state.
+fn all_corrected(
+    furnace: &Furnace,
+    elimination: &Elimination,
+    y_tilde: &Multipliers,
+    residuals: &[Vec<Whole>],
+) -> Multipliers {
+    let d = elimination.correction(&residuals.concat());
+    let mut next = y_tilde.clone();
+    for k in 0..furnace.horizon {
+        for i in 0..furnace.states {
+            next[k][i] = next_multiplier(y_tilde[k][i], d[k * furnace.states + i]);
+        }
+    }
+    next
+}
+
+/// Round k from y and the y before it. Step 4 takes d where there is an elimination, else g.
+pub fn round(
+    furnace: &Furnace,
+    elimination: Option<&Elimination>,
+    k: u32,
+    y: &Multipliers,
+    previous: &Multipliers,
+) -> Round {
     let y_tilde = all_momentum(furnace, k, y, previous);
     let numbers = all_minimisers(furnace, &y_tilde);
     let floor = floor(furnace, &y_tilde);
@@ -230,7 +266,10 @@ pub fn round(furnace: &Furnace, k: u32, y: &Multipliers, previous: &Multipliers)
     } else if floor > ceiling {
         Ending::Impossible
     } else {
-        Ending::Next(all_ascent(furnace, &y_tilde, &residuals))
+        Ending::Next(match elimination {
+            Some(elimination) => all_corrected(furnace, elimination, &y_tilde, &residuals),
+            None => all_ascent(furnace, &y_tilde, &residuals),
+        })
     };
     Round {
         k,
@@ -250,8 +289,10 @@ pub fn run(furnace: &Furnace, watch: &mut dyn FnMut(&Round)) -> Outcome {
     // All multipliers start at 0, and so do those before them.
     let mut y = vec![vec![0; furnace.states]; furnace.horizon];
     let mut previous = y.clone();
+    // Neither W nor its pivots depend on the round.
+    let elimination = Elimination::of_tape(furnace);
     for k in 0..furnace.rounds {
-        let done = round(furnace, k, &y, &previous);
+        let done = round(furnace, elimination.as_ref(), k, &y, &previous);
         watch(&done);
         match (done.ending, done.candidate) {
             (Ending::Proved, Candidate::Follows { plan, gap, .. }) => {
@@ -305,6 +346,55 @@ mod tests {
         assert_eq!(ascent(5, -32_769, 1), 4);
         assert_eq!(ascent(16_777_216, 1_000_000, 65_535), 16_777_216);
         assert_eq!(ascent(-16_777_216, -1_000_000, 65_535), -16_777_216);
+    }
+
+    #[test]
+    fn next_multiplier_rounds_and_limits() {
+        let most = MULTIPLIER_RANGE;
+        let cases = [
+            (5, 0.5, 6),
+            (5, -0.5, 5),
+            (5, 0.499_999_999_999_999_94, 5),
+            (5, 1.5, 7),
+            (5, -1.5, 4),
+            (-7, -2.5, -9),
+            (most, 0.5, most),
+            (most, -0.5, most),
+            (most, -0.75, most - 1),
+            (-most, -0.75, -most),
+            (-most, 2.0 * 16_777_216.0, most),
+            (-most, 33_554_431.5, most),
+            (-most, 33_554_431.25, most - 1),
+            (most, -2.0 * 16_777_216.0 - 1.0, -most),
+        ];
+        for (y, d, next) in cases {
+            assert_eq!(next_multiplier(y, d), next, "{y} {d}");
+        }
+    }
+
+    #[test]
+    fn next_multiplier_far_away() {
+        for y in [-MULTIPLIER_RANGE, -1, 0, 1, MULTIPLIER_RANGE] {
+            for d in [1e9, 4_503_599_627_370_497.0, 1e26, 1e300, f64::MAX] {
+                assert_eq!(next_multiplier(y, d), MULTIPLIER_RANGE, "{y} {d}");
+                assert_eq!(next_multiplier(y, -d), -MULTIPLIER_RANGE, "{y} {d}");
+            }
+            for d in [f64::INFINITY, f64::NEG_INFINITY, f64::NAN, -f64::NAN] {
+                assert_eq!(next_multiplier(y, d), y, "{y} {d}");
+            }
+        }
+    }
+
+    #[test]
+    fn usable_pivots() {
+        let smallest = f64::from_bits(1);
+        for pivot in [smallest, 1e-300, 1.0, 1e26, f64::MAX] {
+            assert!(usable(pivot), "{pivot}");
+            assert!(!usable(-pivot), "{pivot}");
+        }
+        for pivot in [0.0, -0.0, f64::INFINITY, f64::NEG_INFINITY, f64::NAN] {
+            assert!(!usable(pivot), "{pivot}");
+        }
     }
 
     #[test]

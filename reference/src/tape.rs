@@ -1,6 +1,6 @@
-//! The tape's commands, and refusals 1 to 8.
+//! The tape's commands, and refusals 1 to 8 and 18.
 
-use crate::model::{Column, Furnace, Whole};
+use crate::model::{Column, Correction, Furnace, Whole};
 use crate::refusal::Refusal;
 
 /// Command 10: n, m, N.
@@ -19,6 +19,8 @@ pub const STEP_REFERENCE: u8 = 0x31;
 pub const START: u8 = 0x40;
 /// Command 50: g, R and T.
 pub const SEARCH: u8 = 0x50;
+/// Command 51: g, R and T of rounds with the banded step.
+pub const BANDED_SEARCH: u8 = 0x51;
 /// Command FF: the end.
 pub const END: u8 = 0xff;
 
@@ -51,7 +53,7 @@ pub fn operand_bytes(command: u8) -> Option<usize> {
         COLUMN => Some(1 + 2 + 2 + 2 + 1),
         STEP_REFERENCE => Some(1 + 1 + 2),
         START => Some(1 + 2),
-        SEARCH => Some(2 + 2 + 4),
+        SEARCH | BANDED_SEARCH => Some(2 + 2 + 4),
         END => Some(0),
         _ => None,
     }
@@ -95,9 +97,10 @@ struct Given {
     search: Option<Search>,
 }
 
-/// The operands of command 50.
+/// Which of the commands 50 and 51 was given, and its operands.
 #[derive(Clone, Copy)]
 struct Search {
+    correction: Correction,
     step_size: Whole,
     rounds: u32,
     wanted_gap: Whole,
@@ -186,7 +189,7 @@ fn put<T>(place: &mut Option<T>, value: T, offset: usize) -> Result<(), Refusal>
 }
 
 impl Given {
-    /// Takes one of the commands 20 to 50. Each tests 4, then 5, then 6.
+    /// Takes one of the commands 20 to 51. Each tests 4, then 5, then 6.
     fn take(&mut self, command: u8, operands: &[u8], offset: usize) -> Result<(), Refusal> {
         match command {
             STATE_ENTRY => {
@@ -224,7 +227,11 @@ impl Given {
                 put(&mut self.start[i], value, offset)
             }
             SEARCH => {
-                let value = search(operands, offset)?;
+                let value = search(Correction::Gain, operands, offset)?;
+                put(&mut self.search, value, offset)
+            }
+            BANDED_SEARCH => {
+                let value = search(Correction::Banded, operands, offset)?;
                 put(&mut self.search, value, offset)
             }
             _ => unreachable!("10, FF and unknown bytes are dealt with before"),
@@ -259,19 +266,20 @@ fn column(bytes: &[u8], offset: usize) -> Result<Column, Refusal> {
     })
 }
 
-/// g, R and T of command 50. T may be any unsigned number of 4 bytes.
-fn search(bytes: &[u8], offset: usize) -> Result<Search, Refusal> {
+/// g, R and T of command 50 or 51. T may be any unsigned number of 4 bytes.
+fn search(correction: Correction, bytes: &[u8], offset: usize) -> Result<Search, Refusal> {
     let step_size = in_range(unsigned(&bytes[0..2]), 1, 65_535, offset)?;
     let rounds = in_range(unsigned(&bytes[2..4]), 1, MOST_ROUNDS, offset)?;
     let wanted_gap = unsigned(&bytes[4..8]);
     Ok(Search {
+        correction,
         step_size,
         rounds: rounds as u32,
         wanted_gap,
     })
 }
 
-/// Command FF at `offset`: refusal 7, then 8, then the furnace with 0 for absent entries.
+/// Command FF at `offset`: refusal 7, then 18, then 8, then the furnace with 0 for absent entries.
 fn finish(given: Given, tape: &[u8], offset: usize) -> Result<Furnace, Refusal> {
     let columns: Option<Vec<Column>> = given.columns.into_iter().collect();
     let start: Option<Vec<Whole>> = given.start.into_iter().collect();
@@ -281,6 +289,10 @@ fn finish(given: Given, tape: &[u8], offset: usize) -> Result<Furnace, Refusal> 
     else {
         return Err(Refusal::Absent { offset });
     };
+    let some_weight_0 = columns.iter().any(|column| column.weight == 0);
+    if search.correction == Correction::Banded && some_weight_0 {
+        return Err(Refusal::Weightless { offset });
+    }
     if tape.len() > offset + 1 {
         return Err(Refusal::Overrun { offset: offset + 1 });
     }
@@ -294,6 +306,7 @@ fn finish(given: Given, tape: &[u8], offset: usize) -> Result<Furnace, Refusal> 
         columns,
         curves,
         start,
+        correction: search.correction,
         step_size: search.step_size,
         rounds: search.rounds,
         wanted_gap: search.wanted_gap,

@@ -49,6 +49,48 @@ fn every_call() {
 }
 
 #[test]
+fn the_banded_step() {
+    let (f, operands) = (F_FRONT, "19 00 05 00 40 9C 00 00 FF");
+    // 4657847914607935488 is 2560, 4607182418800017408 is 1, 4619567317775286272 is 7.
+    let cases = [
+        (format!("banded {f} 50 {operands}"), "step 0"),
+        (format!("banded {f} 51 {operands}"), "step 1"),
+        (format!("banded {f} FF"), "refused 7 36"),
+        (format!("banded {f} 51 {operands} 00"), "refused 8 46"),
+        ("banded".to_string(), "refused 1 0"),
+        ("pivot 3FF0000000000000".to_string(), "usable 1"),
+        ("pivot 0000000000000001".to_string(), "usable 1"),
+        ("pivot 0000000000000000".to_string(), "usable 0"),
+        ("pivot 7FF0000000000000".to_string(), "usable 0"),
+        ("pivot 7FF8000000000000".to_string(), "usable 0"),
+        ("next 3FE0000000000000 / 5".to_string(), "next 6"),
+        ("next BFE0000000000000/ -5".to_string(), "next -5"),
+        (
+            "next 41F0000000000000 / -16777216".to_string(),
+            "next 16777216",
+        ),
+        (
+            "next FFF0000000000000 / 16777216".to_string(),
+            "next 16777216",
+        ),
+        (
+            format!("correction {f} 51 {operands} / 2560"),
+            "correction 1 / 4657847914607935488 / 4607182418800017408",
+        ),
+        (
+            format!("correction {f} 50 {operands} / 2560"),
+            "correction 0 / 4619567317775286272 / 4619567317775286272",
+        ),
+        (format!("correction {f} 51 {operands} / "), "refused 9 -"),
+        (format!("correction {f} 51 {operands} / 1 2"), "refused 9 -"),
+        (format!("correction {f} FF / 1"), "refused 7 36"),
+    ];
+    for (case, line) in cases {
+        assert_eq!(expect(&case).unwrap(), format!("{line}\n"), "{case}");
+    }
+}
+
+#[test]
 fn ranges_or_the_refusal_of_judge() {
     let f = format!("{F_FRONT} 50 19 00 05 00 40 9C 00 00 FF");
     let pair = format!("{PAIR_FRONT} 50 01 00 01 00 FF FF FF FF FF");
@@ -296,6 +338,18 @@ fn texts_that_are_no_cases() {
         "count",
         "count 00",
         "count 00 / 00",
+        "banded 10 / 1",
+        "pivot",
+        "pivot 3FF0000000000000 3FF0000000000000",
+        "pivot 3ff0000000000000",
+        "next 3FF0000000000000",
+        "next 3FF0000000000000 /",
+        "next 3FF0000000000000 / 16777217",
+        "next 3FF0000000000000 / -16777217",
+        "next 3FF0000000000000 / 1 2",
+        "correction 10",
+        "correction 10 / 2147483648",
+        "correction 10 / 1 / 2",
     ];
     let words = |bytes: usize| format!("count {}", "00".repeat(bytes));
     let words = [47, 49, 24].map(words);

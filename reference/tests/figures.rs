@@ -3,7 +3,9 @@
 mod tapes;
 
 use reference::floor::{ceiling, constant, floor, gap, input_slope, piece, pieces, state_slope};
-use reference::model::{cost, next_state, residual, rounded_state, Column, Furnace, Plan};
+use reference::model::{
+    cost, next_state, residual, rounded_state, Column, Correction, Furnace, Plan,
+};
 use reference::quotient::lowered;
 use reference::rounds::{Candidate, Ending};
 use reference::*;
@@ -331,6 +333,7 @@ fn read_gives_each_number() {
         columns: vec![column(20, 1), column(25, 2), column(0, 3), column(1, 4)],
         curves: vec![None; 4],
         start: vec![10, 20],
+        correction: Correction::Gain,
         step_size: 3,
         rounds: 10_000,
         wanted_gap: 4_294_967_294,

@@ -61,6 +61,34 @@ fn same_seed_same_duties() {
 }
 
 #[test]
+fn same_seed_same_lendings() {
+    // By bits, since what is not a number differs from itself.
+    let bits = |seed| -> Vec<(Whole, u64)> {
+        let next = generate::next_steps(seed).into_iter();
+        next.map(|next| (next.y, next.d.to_bits())).collect()
+    };
+    for seed in 0..100 {
+        assert_eq!(generate::lendings(seed), generate::lendings(seed));
+        assert_eq!(bits(seed), bits(seed));
+    }
+}
+
+#[test]
+fn a_quarter_has_command_51() {
+    let mut steps = [0, 0];
+    for seed in 0..2_000 {
+        // Late ones take long to make.
+        if kind(seed) != Kind::Late {
+            if let Ok(step) = read_step(&tape(seed).bytes) {
+                steps[step as usize] += 1;
+            }
+        }
+    }
+    let share = 100 * steps[1] / (steps[0] + steps[1]);
+    assert!((20..=30).contains(&share), "{steps:?}");
+}
+
+#[test]
 fn kinds_meant_to_be_accepted_are() {
     let mut longest = 0;
     for seed in SEEDS {
@@ -433,6 +461,20 @@ fn few_seeds_lead_to_every_answer() {
     }
     for name in ["proved, gap larger", "proved later", "impossible later"] {
         assert!(counts.count(solved, name) > 0, "{name}");
+    }
+    let [read, refused, solve, correction, ..] = count::BANDED;
+    for (heading, names) in [
+        (read, ["50", "51", "51"]),
+        (
+            refused,
+            ["6 for 51 after 50", "7 for neither", "18 before 8"],
+        ),
+        (solve, ["proved", "impossible", "with g"]),
+        (correction, ["written", "fallen back", "refused 9"]),
+    ] {
+        for name in names {
+            assert!(counts.count(heading, name) > 0, "{heading}: {name}");
+        }
     }
     for heading in count::RANGES {
         for name in ["weight 0", "first, hi", "second, lo", "third, neither"] {

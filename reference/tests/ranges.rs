@@ -319,7 +319,8 @@ fn slips_have_the_ranges_of_what_the_solve_leaves() {
 
 #[test]
 fn ranges_are_of_accepted_plans_alone() {
-    let (mut accepted, mut refused) = (0, [0; 13]);
+    // By number: judging has 1 to 13 and 18.
+    let (mut accepted, mut refused) = (0, [0; 18]);
     for seed in 0..400 {
         if kind(seed) == Kind::Late {
             continue;
@@ -349,5 +350,7 @@ fn ranges_are_of_accepted_plans_alone() {
         }
     }
     assert!(accepted > 100, "{accepted}");
-    assert!(refused.iter().all(|count| *count > 0), "{refused:?}");
+    let expected = refused[..13].iter().chain(&refused[17..]);
+    assert!(expected.into_iter().all(|count| *count > 0), "{refused:?}");
+    assert_eq!(refused[13..17], [0; 4]);
 }

@@ -39,6 +39,7 @@ fn numbers_words_and_carried() {
         (Refusal::Open { rounds: 3 }, "open", Some(3)),
         (Refusal::NotFinite { entry: Some(3) }, "not finite", Some(3)),
         (Refusal::TooLarge { entry: Some(3) }, "too large", Some(3)),
+        (Refusal::Weightless { offset: 3 }, "weightless", Some(3)),
     ];
     for (index, (refusal, word, carried)) in all.into_iter().enumerate() {
         assert_eq!(refusal.number() as usize, index + 1);
@@ -97,7 +98,7 @@ fn refusal_2_unknown() {
     all_refused(
         F_FRONT,
         2,
-        &[("51", 36), ("50 19 00 05 00 40 9C 00 00 60", 45)],
+        &[("52", 36), ("50 19 00 05 00 40 9C 00 00 60", 45)],
     );
 }
 

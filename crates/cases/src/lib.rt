@@ -1,7 +1,10 @@
-// Cases of the test programs: a line each, `read HEX`, `steps HEX`, `judge HEX / numbers / numbers`,
-// `ranges HEX / numbers / numbers`, `show HEX / numbers`, `solve HEX / numbers / numbers`, `entry HEX`,
-// `model HEX / numbers`, `count HEX` or `missing HEX / numbers`, as the second program takes them. What
-// follows a # is passed over.
+// Cases of the test programs: a line each, `read HEX`, `steps HEX`, `banded HEX`,
+// `judge HEX / numbers / numbers`, `ranges HEX / numbers / numbers`, `show HEX / numbers`,
+// `solve HEX / numbers / numbers`, `entry HEX`, `model HEX / numbers`, `count HEX`,
+// `missing HEX / numbers`, `pivot HEX`, `next HEX / number` or `correction HEX / numbers`, as the second
+// program takes them. What follows a # is passed over.
+pub mod floats;
+
 use integer::number::size;
 use tape::refusal::Carried;
 use tape::refusal::Refusal;
@@ -9,7 +12,8 @@ use tape::refusal::carries;
 use tape::refusal::number;
 
 // A case as far as it has been read, character by character. The kind is the last such letter of the
-// line's word, 0 before it; `read` and `ranges`, of two programs, share theirs. Digits of a tape, or of floats, are 0 to 9 and A to F; numbers are decimal.
+// line's word, 0 before it; words of two programs may share theirs, as `read` and `ranges` do. Digits of
+// a tape, or of floats, are 0 to 9 and A to F; numbers are decimal.
 pub struct Case {
     pub kind: u8,
     pub comment: bool,
@@ -55,7 +59,7 @@ impl Case {
                 case.comment = true;
                 case
             }
-            b'r' | b'p' | b'j' | b'h' | b'v' | b'y' | b'm' | b'c' | b'i' => {
+            b'r' | b'p' | b'b' | b'j' | b'h' | b'v' | b'y' | b'm' | b'c' | b'i' | b'x' => {
                 case.kind = c;
                 case
             }

@@ -1,7 +1,7 @@
 -- How far commands reach: place and bytes of each, how many bytes all take, and that bytes behind a command change nothing.
 use Prim.Native.Nat.{ℕ, _+_, _<_, _≤_}
 use mathlib.Core.Path.{_≡_, refl}
-use mathlib.Core.Bool.{cond}
+use mathlib.Core.Bool.{Bool, true, false, cond}
 use mathlib.Core.List.{List, _++_}
 use native.Mathlib.Omega.{arith}
 use lib.Dec.{ltb}
@@ -49,7 +49,7 @@ place-below (Drift i v) h = omega arith
 place-below (Column c lo hi r w) h = omega arith
 place-below (Reference c k r) h = omega arith
 place-below (Start i v) h = omega arith
-place-below (Rounds g rounds t) h = omega arith
+place-below (Rounds banded g rounds t) h = omega arith
 
 pub some-bytes : (e : Entry) → 1 ≤ bytesOf e
 some-bytes (State i j v) = omega arith
@@ -58,7 +58,7 @@ some-bytes (Drift i v) = omega arith
 some-bytes (Column c lo hi r h) = omega arith
 some-bytes (Reference c k r) = omega arith
 some-bytes (Start i v) = omega arith
-some-bytes (Rounds g rounds t) = omega arith
+some-bytes (Rounds banded g rounds t) = omega arith
 
 pub bytes-at : (e : Entry) → Inside e → bytesAt (placeOf e) ≡ bytesOf e
 unfolding bytesAt
@@ -83,7 +83,7 @@ bytes-at (Start i v) h =
       le-ltb (startPlace + i) startPlace (omega arith),
       lt-ltb (startPlace + i) roundsPlace (omega arith),
     )
-bytes-at (Rounds g rounds t) h = refl
+bytes-at (Rounds banded g rounds t) h = refl
 
 pub deciding-bytes : decidingBytes ≡ 1072
 unfolding decidingBytes mostBytes sumℕ bytesAt
@@ -128,11 +128,11 @@ module _ (xs ys : List ℕ) (at : ℕ) (room : at + longestBytes ≤ length xs) 
   unfolding startCommand
   start-same = whole-same 3 (omega arith) (rw (operand-same 1 1 (omega arith), operand-same 2 2 (omega arith)))
 
-  rounds-same : roundsCommand (xs ++ ys) at ≡ roundsCommand xs at
+  rounds-same : (banded : Bool) → roundsCommand banded (xs ++ ys) at ≡ roundsCommand banded xs at
   unfolding roundsCommand
-  rounds-same = whole-same 8 (omega arith) (rw (operand-same 2 1 (omega arith), operand-same 2 3 (omega arith), operand-same 4 5 (omega arith)))
+  rounds-same banded = whole-same 8 (omega arith) (rw (operand-same 2 1 (omega arith), operand-same 2 3 (omega arith), operand-same 4 5 (omega arith)))
 
   pub decoded-front : decoded (xs ++ ys) at ≡ decoded xs at
   unfolding decoded
   decoded-front =
-      rw (List·getD-append xs ys 0 at (omega arith), size-same, pair-same State, pair-same Input, drift-same, column-same, pair-same Reference, start-same, rounds-same)
+      rw (List·getD-append xs ys 0 at (omega arith), size-same, pair-same State, pair-same Input, drift-same, column-same, pair-same Reference, start-same, rounds-same false, rounds-same true)

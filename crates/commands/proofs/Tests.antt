@@ -1,4 +1,4 @@
--- Laws about commands: one that is cut or whole, the indexes of an entry that is not beyond the size, and that FF asks for command 50.
+-- Laws about commands: one that is cut or whole, the indexes of an entry that is not beyond the size, and that FF asks for command 50 or 51.
 use Prim.Native.Nat.{ℕ, _+_, _-_, _<_, _≤_}
 use mathlib.Core.Path.{_≡_, ap}
 use mathlib.Core.Bool.{Bool, true, false, _||_, or-true}
@@ -34,7 +34,7 @@ Inside (Drift i v) = i < 6
 Inside (Column c lo hi r h) = c < 10
 Inside (Reference c k r) = (c < 10) × (k < 12)
 Inside (Start i v) = i < 6
-Inside (Rounds g rounds t) = Unit {0}
+Inside (Rounds banded g rounds t) = Unit {0}
 
 pub inside : (n m horizon : ℕ) (e : Entry) → SmallSizes n m horizon → beyond n m horizon e ≡ false → Inside e
 unfolding beyond
@@ -44,7 +44,7 @@ inside n m horizon (Drift i v) h e = omega (arith, leb-false n i e)
 inside n m horizon (Column c lo hi r w) h e = omega (arith, leb-false (n + m) c e)
 inside n m horizon (Reference c k r) h e = let t = none (leb (n + m) c) (leb horizon k ∷ []) e in omega (arith, leb-false)
 inside n m horizon (Start i v) h e = omega (arith, leb-false n i e)
-inside n m horizon (Rounds g rounds t) h e = tt
+inside n m horizon (Rounds banded g rounds t) h e = tt
 
 -- ---- What FF asks for
 

@@ -1,6 +1,6 @@
--- Document 01, "Tape commands": its table, line by line; and command 31 of document 02, request 1.
+-- Document 01, "Tape commands": its table, line by line; and commands 31 and 51 of document 02, requests 1 and 9.
 use Prim.Native.Nat.{ℕ, _+_, _*_}
-use mathlib.Core.Bool.{Bool, false, cond, _||_}
+use mathlib.Core.Bool.{Bool, true, false, cond, _||_}
 use mathlib.Core.List.{List}
 use lib.Dec.{eqb, ltb, leb}
 use lib.ListN.{length, getD}
@@ -61,9 +61,9 @@ referenceCommand = pairCommand Reference
 unfoldable pub startCommand : List ℕ → ℕ → Command
 startCommand s at = whole 3 s at (Give (Start (unsignedAt 1 s (at + 1)) (signedAt 2 s (at + 2))))
 
--- g: 2, R: 2, T: 4, all unsigned
-unfoldable pub roundsCommand : List ℕ → ℕ → Command
-roundsCommand s at = whole 8 s at (Give (Rounds (pos (unsignedAt 2 s (at + 1))) (unsignedAt 2 s (at + 3)) (pos (unsignedAt 4 s (at + 5)))))
+-- g: 2, R: 2, T: 4, all unsigned; banded where it is command 51, and not where it is 50
+unfoldable pub roundsCommand : Bool → List ℕ → ℕ → Command
+roundsCommand banded s at = whole 8 s at (Give (Rounds banded (pos (unsignedAt 2 s (at + 1))) (unsignedAt 2 s (at + 3)) (pos (unsignedAt 4 s (at + 5)))))
 
 unfoldable pub decoded : List ℕ → ℕ → Command
 decoded s at =
@@ -75,9 +75,10 @@ decoded s at =
     (cond (eqb byte 0x30) (columnCommand s at)
     (cond (eqb byte 0x31) (referenceCommand s at)
     (cond (eqb byte 0x40) (startCommand s at)
-    (cond (eqb byte 0x50) (roundsCommand s at)
+    (cond (eqb byte 0x50) (roundsCommand false s at)
+    (cond (eqb byte 0x51) (roundsCommand true s at)
     (cond (eqb byte 0xFF) End
-    Unknown))))))))
+    Unknown)))))))))
 
 -- the command byte and its operands: of command 10, and of an entry's
 abbrev pub sizeBytes : ℕ
@@ -90,7 +91,7 @@ bytesOf (Drift i v) = 6
 bytesOf (Column c lo hi r h) = 9
 bytesOf (Reference c k r) = 5
 bytesOf (Start i v) = 4
-bytesOf (Rounds g rounds t) = 9
+bytesOf (Rounds banded g rounds t) = 9
 
 -- ---- Meaning: indexes and ranges
 
@@ -106,7 +107,7 @@ beyond n m horizon (Drift i v) = leb n i
 beyond n m horizon (Column c lo hi r h) = leb (n + m) c
 beyond n m horizon (Reference c k r) = leb (n + m) c || leb horizon k
 beyond n m horizon (Start i v) = leb n i
-beyond n m horizon (Rounds g rounds t) = false
+beyond n m horizon (Rounds banded g rounds t) = false
 
 -- lo, hi, r -20,000 to 20,000, lo ≤ hi; h 0 to 255 (document 02, request 4), which is every byte
 unfoldable pub wrongColumn : ℤ → ℤ → ℤ → ℤ → Bool
@@ -122,7 +123,7 @@ wrong (Drift i v) = exceeding mostDrift v
 wrong (Column c lo hi r h) = wrongColumn lo hi r h
 wrong (Reference c k r) = exceeding mostNumber r
 wrong (Start i v) = exceeding mostNumber v
-wrong (Rounds g rounds t) = ltZ g (pos 1) || ltb rounds 1 || ltb mostRounds rounds
+wrong (Rounds banded g rounds t) = ltZ g (pos 1) || ltb rounds 1 || ltb mostRounds rounds
 
 -- ---- The place whose mark the entry sets
 
@@ -133,4 +134,4 @@ placeOf (Drift i v) = driftPlace + i
 placeOf (Column c lo hi r h) = columnPlace + c
 placeOf (Reference c k r) = referencePlace + (12 * c + k)
 placeOf (Start i v) = startPlace + i
-placeOf (Rounds g rounds t) = roundsPlace
+placeOf (Rounds banded g rounds t) = roundsPlace

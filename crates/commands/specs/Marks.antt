@@ -24,7 +24,7 @@ columnPlace = 66
 abbrev pub startPlace : ℕ
 startPlace = 76
 
--- command 50
+-- command 50 or 51
 abbrev pub roundsPlace : ℕ
 roundsPlace = 82
 

@@ -1,4 +1,4 @@
--- What FF asks for: every column, every start value and command 50; and of a column with a curve the reference of every step.
+-- What FF asks for: every column, every start value and command 50 or 51; and of a column with a curve the reference of every step.
 use Prim.Native.Nat.{ℕ, _+_, _-_, _*_}
 use mathlib.Core.Bool.{Bool, _&&_, _||_}
 use mathlib.Core.List.{List}

@@ -1,4 +1,5 @@
-// The commands of a tape: their bytes, their operands and the tests of document 01's table.
+// The commands of a tape: their bytes, their operands and the tests of document 01's table, with
+// commands 31 and 51 of document 02, requests 1 and 9.
 pub mod mark;
 pub mod range;
 
@@ -31,7 +32,8 @@ use integer::bytes::u16_at;
 use integer::bytes::u32_at;
 use integer::number::is_outside;
 
-// What a command gives: the number or numbers of one place.
+// What a command gives: the number or numbers of one place. Of the rounds, first whether it is command
+// 51, the banded step, and not 50.
 pub enum Entry {
     State(usize, usize, i64),
     Input(usize, usize, i64),
@@ -39,7 +41,7 @@ pub enum Entry {
     Column(usize, i64, i64, i64, i64),
     Reference(usize, usize, i64),
     Start(usize, i64),
-    Rounds(i64, usize, i64),
+    Rounds(bool, i64, usize, i64),
 }
 
 // A command with its operands, or what stands in their way.
@@ -64,7 +66,8 @@ pub fn decode(s: &[u8], at: usize) -> Command
         0x30 => column(s, at),
         0x31 => reference(s, at),
         0x40 => start(s, at),
-        0x50 => rounds(s, at),
+        0x50 => rounds(false, s, at),
+        0x51 => rounds(true, s, at),
         0xFF => Command::End,
         _ => Command::Unknown,
     }
@@ -147,16 +150,16 @@ fn start(s: &[u8], at: usize) -> Command
     Command::Give(Entry::Start(u8_at(s, at + 1), i16_at(s, at + 2)))
 }
 
-fn rounds(s: &[u8], at: usize) -> Command
+fn rounds(banded: bool, s: &[u8], at: usize) -> Command
     requires { ⌜ at < length (now s) ⌝ }
-    ensures { λ r. ⌜ (r ≡ roundsCommand (now (s .entry)) at) × Room at (length (now (s .entry))) r ⌝ }
+    ensures { λ r. ⌜ (r ≡ roundsCommand banded (now (s .entry)) at) × Room at (length (now (s .entry))) r ⌝ }
 {
     if s.len() - at <= 8 {
         return Command::Cut;
     }
     let gain = u16_at(s, at + 1) as i64;
     let wanted = u32_at(s, at + 5) as i64;
-    Command::Give(Entry::Rounds(gain, u16_at(s, at + 3), wanted))
+    Command::Give(Entry::Rounds(banded, gain, u16_at(s, at + 3), wanted))
 }
 
 // Test 5 of command 10.
@@ -188,7 +191,7 @@ pub fn is_beyond(entry: Entry, n: usize, m: usize, horizon: usize) -> bool
         Entry::Column(c, _, _, _, _) => n + m <= c,
         Entry::Reference(c, k, _) => n + m <= c || horizon <= k,
         Entry::Start(i, _) => n <= i,
-        Entry::Rounds(_, _, _) => false,
+        Entry::Rounds(_, _, _, _) => false,
     }
 }
 
@@ -208,7 +211,7 @@ pub fn is_wrong(entry: Entry) -> bool
         ),
         Entry::Reference(_, _, v) => is_outside(v, LEAST_NUMBER, MOST_NUMBER),
         Entry::Start(_, v) => is_outside(v, LEAST_NUMBER, MOST_NUMBER),
-        Entry::Rounds(gain, rounds, _) => gain < 1 || rounds < 1 || MOST_ROUNDS < rounds,
+        Entry::Rounds(_, gain, rounds, _) => gain < 1 || rounds < 1 || MOST_ROUNDS < rounds,
     }
 }
 
@@ -224,7 +227,7 @@ pub fn place_of(entry: Entry, n: usize, m: usize, horizon: usize) -> usize
         Entry::Column(c, _, _, _, _) => COLUMN_PLACE + c,
         Entry::Reference(c, k, _) => REFERENCE_PLACE + (12 * c + k),
         Entry::Start(i, _) => START_PLACE + i,
-        Entry::Rounds(_, _, _) => ROUNDS_PLACE,
+        Entry::Rounds(_, _, _, _) => ROUNDS_PLACE,
     }
 }
 
@@ -239,6 +242,6 @@ pub fn bytes_of(entry: Entry) -> usize
         Entry::Column(_, _, _, _, _) => 9,
         Entry::Reference(_, _, _) => 5,
         Entry::Start(_, _) => 4,
-        Entry::Rounds(_, _, _) => 9,
+        Entry::Rounds(_, _, _, _) => 9,
     }
 }

@@ -1,6 +1,6 @@
 // Where the marks stand: a mark for each place that a command can give. These are A, row by row at a
-// stride of 6, B at a stride of 4, w, the columns, x(0), command 50, and the references by step, column
-// by column at a stride of 12.
+// stride of 6, B at a stride of 4, w, the columns, x(0), command 50 or 51, and the references by step,
+// column by column at a stride of 12.
 pub const STATE_PLACE: usize = 0;
 
 pub const INPUT_PLACE: usize = 36;

@@ -4,3 +4,4 @@ pub mod Values
 pub mod Exact
 pub mod Rounded
 pub mod Whole
+pub mod Finite

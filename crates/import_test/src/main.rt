@@ -1,5 +1,7 @@
 // Imports the entries and models on standard input and writes what they are imported as.
 use cases::Case;
+use cases::floats::bits;
+use cases::floats::float_at;
 use cases::refused;
 use cases::size_at;
 use import::Entry;
@@ -50,19 +52,12 @@ fn show_entry(entry: f64) {
         Entry::Near(number, leftover) => {
             print::word(b"near");
             print::number(number);
-            pattern(leftover);
+            bits(leftover);
         }
         Entry::NotFinite => print::word(b"refused 16 -"),
         Entry::TooLarge => print::word(b"refused 17 -"),
     }
     print::end();
-}
-
-// A leftover's bits. It is never NaN, for which there are none.
-fn pattern(x: f64) {
-    if x == x {
-        print::unsigned(f64::to_bits(x));
-    }
 }
 
 // n, m, how many entries A and B have, and the length of the output, which is 7 throughout.
@@ -132,31 +127,4 @@ fn floats(bytes: &[u8], first: usize) -> [f64; 64] {
         i += 1;
     }
     list
-}
-
-// The float whose bits stand in 8 bytes, the high byte first; 0 where there are not so many.
-fn float_at(bytes: &[u8], at: usize) -> f64 {
-    if bytes.len() < 8 {
-        return 0.0;
-    }
-    if bytes.len() - 8 < at {
-        return 0.0;
-    }
-    let mut bits: u64 = 0;
-    let mut i: usize = 0;
-    while i < 8 {
-        if bits < 72057594037927936 {
-            bits = bits * 256 + u8_at(bytes, at + i) as u64;
-        }
-        i += 1;
-    }
-    float_of(bits)
-}
-
-// Every NaN is one: it has no bits to be made from.
-fn float_of(bits: u64) -> f64 {
-    if 9218868437227405312 < bits % 9223372036854775808 {
-        return 0.0 / 0.0;
-    }
-    f64::from_bits(bits)
 }

@@ -261,8 +261,9 @@ module _ (s : List ℕ) (bytes : Bytes s) (plan y : List ℤ) where
       go : (a : Answer) → reading s .answer ≡ a → Reasoned (judgedAfterRead a (judgedOn t plan y)) s plan y
       go answer.Accepted e = judged-reason
       go (answer.Refused why) e =
-          let small = rw e at (bounds s) in
-          other-reasoned s plan y _ (λ z. omega (arith, small)) (λ z. omega (arith, small)) (λ z. omega (arith, small))
+          let other : (number : ℕ) → (8 < number) × (number < 18) → row why .number ≡ number → ⊥ =
+          λ number l z. ⊎-elim (λ small. omega arith) (λ last. omega arith) (rw e at (bounds s) .0) in
+          other-reasoned s plan y _ (other 10 (omega arith)) (other 11 (omega arith)) (other 13 (omega arith))
 
 -- all clauses of a judge's promise from the first
 pub plan-promise : (s : List ℕ) (plan y : List ℤ) {r : Judged} → Bytes s → r ≡ judged s plan y →

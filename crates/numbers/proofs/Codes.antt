@@ -2,10 +2,10 @@
 use Prim.Native.Nat.{_≤_}
 use native.Mathlib.Omega.{arith}
 use Rattle.tape.specs.declared.refusal.Refusal.{Refusal}
-use Rattle.tape.specs.declared.refusal.Refusal.the-variants.{Cut, Unknown, Misplaced, NoSuchPlace, OutOfRange, Twice, Absent, Overrun, Length, OffModel, OverLimit, Multiplier, Wide, NotShown, Open, ArgumentOutOfRange, NotFinite, TooLarge}
+use Rattle.tape.specs.declared.refusal.Refusal.the-variants.{Cut, Unknown, Misplaced, NoSuchPlace, OutOfRange, Twice, Absent, Overrun, Length, OffModel, OverLimit, Multiplier, Wide, NotShown, Open, ArgumentOutOfRange, NotFinite, TooLarge, Weightless}
 use Rattle.tape.specs.Refusals.{row}
 
-pub number-range : (why : Refusal) → (1 ≤ row why .number) × (row why .number ≤ 17)
+pub number-range : (why : Refusal) → (1 ≤ row why .number) × (row why .number ≤ 18)
 number-range (Cut at) = omega arith
 number-range (Unknown at) = omega arith
 number-range (Misplaced at) = omega arith
@@ -24,3 +24,4 @@ number-range (Open R) = omega arith
 number-range ArgumentOutOfRange = omega arith
 number-range (NotFinite count) = omega arith
 number-range (TooLarge count) = omega arith
+number-range (Weightless at) = omega arith

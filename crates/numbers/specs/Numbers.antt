@@ -26,3 +26,7 @@ markNumber given = cond given (pos 1) (pos 0)
 -- mark at 120 + 12c + k.
 abbrev pub referenceNumbers : Tape → List ℤ
 referenceNumbers t = t .curves .reference ++ map markNumber (t .curves .given)
+
+-- The one number of a tape's step: 0 where the tape has command 50, 1 where it has 51.
+abbrev pub stepNumbers : Tape → List ℤ
+stepNumbers t = markNumber (t .banded) ∷ []

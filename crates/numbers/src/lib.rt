@@ -6,7 +6,7 @@ ghost use lib.ListN.{length, take};
 ghost use Rattle.commands.specs.Ranges.{mostRounds};
 ghost use Rattle.tape.specs.Legal.{Legal};
 ghost use Rattle.tape.specs.Refusals.{row, figure};
-ghost use Rattle.numbers.specs.Numbers.{codeOf, readNumbers, markNumber, referenceNumbers};
+ghost use Rattle.numbers.specs.Numbers.{codeOf, readNumbers, markNumber, referenceNumbers, stepNumbers};
 use tape::Tape;
 use tape::refusal::Refusal;
 use tape::refusal::figure;
@@ -76,6 +76,12 @@ pub fn reference_numbers(t: Tape) -> [i64; 240]
     put(&mut out, 0, &curves.reference);
     put(&mut out, 120, &marks);
     out
+}
+
+pub fn step_numbers(t: Tape) -> [i64; 1]
+    ensures { λ r. ⌜ r ≡ stepNumbers t ⌝ }
+{
+    [mark_number(t.banded)]
 }
 
 // The number that a call returns for a refusal.

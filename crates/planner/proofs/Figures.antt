@@ -1,9 +1,10 @@
--- The figures of a judge's answer are at most 10,000, so that a refusal's code fits its word.
-use Prim.Native.Nat.{ℕ}
+-- The figures of an answer are at most 10,000, so that a refusal's code fits its word.
+use Prim.Native.Nat.{ℕ, _*_}
 use mathlib.Core.Path.{_≡_, refl}
 use mathlib.Core.Bool.{_||_}
 use mathlib.Core.List.{List}
 use native.Mathlib.Omega.{arith}
+use lib.ListN.{length}
 use lib.IntN.{ℤ, _-ℤ_}
 use lib.Signed.{ltZ}
 use Rattle.integer.proofs.Tests.{by-test}
@@ -26,6 +27,10 @@ use Rattle.judge.specs.declared.Judged.the-variants as judging
 use Rattle.judge.specs.declared.Shown.{Shown}
 use Rattle.judge.specs.declared.Shown.the-variants as showing
 use Rattle.judge.specs.Judging.{gapWithin, afterCheck, judgedOn, judgedAfterRead, judged, shownOn, shownAfterRead, shown}
+use Rattle.banded.specs.Step.{usesBand}
+use Rattle.corrections.specs.declared.Corrected.{Corrected}
+use Rattle.corrections.specs.declared.Corrected.the-variants as correcting
+use Rattle.corrections.specs.Corrections.{wrongRows, wrongResiduals, correctedOn, correctedAfter, corrected}
 use Rattle.solver.proofs.Small.{Small, SmallRead, small-read}
 
 small-test : (t : Test) (fault : Fault) → Small (refusalOf t fault)
@@ -69,4 +74,23 @@ small-shown s y = go (reading s .answer) (small-read s)
         by-test SmallShown (wrongMultipliersLength t y) (λ _. omega arith)
         (λ _. by-test SmallShown (wrongMultipliers y) (λ _. omega arith)
         (λ _. by-test SmallShown (shows (problemOf t) (multipliersOf (t .n) y)) (λ _. tt) (λ _. omega arith)))
+    go (answer.Refused why) h = h
+
+abbrev pub SmallCorrected : Corrected → Type 0
+SmallCorrected correcting.Written = Unit {0}
+SmallCorrected correcting.Unused = Unit {0}
+SmallCorrected (correcting.Refused why) = Small why
+
+pub small-corrected : (s : List ℕ) (e : List ℤ) (pivots d : ℕ) → SmallCorrected (corrected s e pivots d)
+unfolding corrected correctedOn
+small-corrected s e pivots d = go (reading s .answer) (small-read s)
+  where
+    t : Tape
+    t = reading s .tape
+
+    go : (a : Answer) → SmallRead a → SmallCorrected (correctedAfter a (correctedOn t e pivots d))
+    go answer.Accepted h =
+        by-test SmallCorrected (wrongRows (t .horizon * t .n) (length e) pivots d) (λ _. omega arith)
+        (λ _. by-test SmallCorrected (wrongResiduals e) (λ _. omega arith)
+        (λ _. by-test SmallCorrected (usesBand t) (λ _. tt) (λ _. tt)))
     go (answer.Refused why) h = h

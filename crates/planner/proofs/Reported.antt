@@ -9,7 +9,7 @@ use Rattle.integer.proofs.Order.{order}
 use Rattle.tape.specs.declared.refusal.Carried.{Carried}
 use Rattle.tape.specs.declared.refusal.Carried.the-variants as carried
 use Rattle.tape.specs.declared.refusal.Refusal.{Refusal}
-use Rattle.tape.specs.declared.refusal.Refusal.the-variants.{Cut, Unknown, Misplaced, NoSuchPlace, OutOfRange, Twice, Absent, Overrun, Length, OffModel, OverLimit, Multiplier, Wide, NotShown, Open, ArgumentOutOfRange, NotFinite, TooLarge}
+use Rattle.tape.specs.declared.refusal.Refusal.the-variants.{Cut, Unknown, Misplaced, NoSuchPlace, OutOfRange, Twice, Absent, Overrun, Length, OffModel, OverLimit, Multiplier, Wide, NotShown, Open, ArgumentOutOfRange, NotFinite, TooLarge, Weightless}
 use Rattle.tape.specs.Reading.{reading}
 use Rattle.tape.specs.Refusals.{row, figure}
 use Rattle.numbers.specs.Numbers.{codeOf}
@@ -75,6 +75,7 @@ module _ (s : List ℕ) (plan y : List ℤ) where
   seen fits ArgumentOutOfRange small r = (tt, plain ArgumentOutOfRange)
   seen fits (NotFinite count) small r = (small, plain (NotFinite count))
   seen fits (TooLarge count) small r = (small, plain (TooLarge count))
+  seen fits (Weightless at) small r = (small, plain (Weightless at))
 
   said : Room (reading s .tape) → (j : Judged) → SmallJudged j → Backed j (reading s .tape) plan y → Reasoned j s plan y → Said j
   said fits (Gap gap) small b r = λ before.

@@ -5,7 +5,7 @@ use lib.IntN.{ℤ, pos}
 use Rattle.tape.specs.declared.Answer.{Answer}
 use Rattle.tape.specs.declared.Answer.the-variants as answer
 use Rattle.tape.specs.declared.Tape.{Tape}
-use Rattle.numbers.specs.Numbers.{codeOf, readNumbers, referenceNumbers}
+use Rattle.numbers.specs.Numbers.{codeOf, readNumbers, referenceNumbers, stepNumbers}
 use Rattle.judge.specs.declared.Judged.{Judged}
 use Rattle.judge.specs.declared.Judged.the-variants as judged
 use Rattle.judge.specs.declared.Shown.{Shown}
@@ -29,6 +29,12 @@ readLeft (answer.Refused why) t before = before
 abbrev pub referencesLeft : Answer → Tape → List ℤ → List ℤ
 referencesLeft answer.Accepted t before = referenceNumbers t
 referencesLeft (answer.Refused why) t before = before
+
+-- ---- read step
+
+abbrev pub stepLeft : Answer → Tape → List ℤ → List ℤ
+stepLeft answer.Accepted t before = stepNumbers t
+stepLeft (answer.Refused why) t before = before
 
 -- ---- judge a plan
 

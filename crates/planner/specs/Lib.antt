@@ -5,3 +5,4 @@ pub mod Imports
 pub mod Ranges
 pub mod Records
 pub mod Reports
+pub mod Corrections

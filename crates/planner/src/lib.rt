@@ -1,6 +1,7 @@
 // The planner for other languages: the calls of document 01, and those that requests of document 02
 // added, as C functions. Each returns 0 where it has a result, and else the refusal's number + 256
 // times what it carries.
+mod band;
 mod ends;
 mod imports;
 mod record;
@@ -14,7 +15,7 @@ ghost use Rattle.commands.specs.Ranges.{mostRounds};
 ghost use Rattle.tape.specs.Reading.{reading};
 ghost use Rattle.judge.specs.Judging.{judged, shown};
 ghost use Rattle.solver.specs.Solving.{solving, answerOf, planLeft, multipliersLeft};
-ghost use Rattle.planner.specs.Calls.{readCode, readLeft, referencesLeft, judgedCode, judgedLeft, shownCode, solvedCode, solvedLeft};
+ghost use Rattle.planner.specs.Calls.{readCode, readLeft, referencesLeft, stepLeft, judgedCode, judgedLeft, shownCode, solvedCode, solvedLeft};
 ghost use Rattle.planner.specs.Demand.{BackedBy, FoundedBy, UpheldBy, AgainBy, RoundsBy};
 use judge::Judged;
 use judge::Shown;
@@ -23,6 +24,7 @@ use judge::judge_plan;
 use numbers::code;
 use numbers::numbers_of;
 use numbers::reference_numbers;
+use numbers::step_numbers;
 use solver::Duties;
 use solver::Solved;
 use solver::solve;
@@ -57,6 +59,23 @@ pub extern "C" fn fibergravel_read_references(tape: &[u8], out: &mut [i64; 240])
     match answer {
         Answer::Accepted => {
             *out = reference_numbers(result.tape);
+            0
+        }
+        Answer::Refused(why) => code(why),
+    }
+}
+
+// Reads which step a tape asks for. `out` then holds 0 for command 50, 1 for 51.
+#[no_mangle]
+pub extern "C" fn fibergravel_read_step(tape: &[u8], out: &mut [i64; 1]) -> u64
+    ensures { λ r. ⌜ r ≡ readCode (reading (now (tape .entry)) .answer) ⌝ }
+    ensures { λ _. ⌜ now (out .exit) ≡ stepLeft (reading (now (tape .entry)) .answer) (reading (now (tape .entry)) .tape) (now (out .entry)) ⌝ }
+{
+    let result = read(tape);
+    let answer = result.answer;
+    match answer {
+        Answer::Accepted => {
+            *out = step_numbers(result.tape);
             0
         }
         Answer::Refused(why) => code(why),

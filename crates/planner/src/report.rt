@@ -62,7 +62,7 @@ fn report_refusal(why: Refusal, out: &mut [i64; 5]) -> u64
 
 // A refusal's number and a fault.
 fn fault_numbers(refusal: usize, fault: Fault) -> [i64; 5]
-    requires { ⌜ (refusal ≤ 17) × (fault .step < 12) × (fault .column < 10) ⌝ }
+    requires { ⌜ (refusal ≤ 18) × (fault .step < 12) × (fault .column < 10) ⌝ }
     ensures { λ r. ⌜ r ≡ pos refusal ∷ pos (fault .step) ∷ pos (fault .column) ∷ fault .found ∷ fault .due ∷ [] ⌝ }
 {
     [
@@ -76,7 +76,7 @@ fn fault_numbers(refusal: usize, fault: Fault) -> [i64; 5]
 
 // A refusal's number, cost and floor.
 fn span_numbers(refusal: usize, span: Span) -> [i64; 5]
-    requires { ⌜ refusal ≤ 17 ⌝ }
+    requires { ⌜ refusal ≤ 18 ⌝ }
     ensures { λ r. ⌜ r ≡ pos refusal ∷ span .cost ∷ span .floor ∷ pos 0 ∷ pos 0 ∷ [] ⌝ }
 {
     [refusal as i64, span.cost, span.floor, 0, 0]

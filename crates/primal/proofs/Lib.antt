@@ -9,3 +9,5 @@ pub mod Padding
 pub mod Held
 pub mod HeldSteps
 pub mod Lengths
+pub mod Lent
+pub mod Filled

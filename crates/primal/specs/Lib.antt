@@ -3,3 +3,4 @@ pub mod Padded
 pub mod Ranges
 pub mod Terms
 pub mod Held
+pub mod Lent

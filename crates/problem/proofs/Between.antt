@@ -14,7 +14,7 @@ use Rattle.integer.specs.Tests.{outside, any}
 use Rattle.commands.specs.Format.{pairCommand, sizeCommand, driftCommand, columnCommand, startCommand, roundsCommand, decoded, wrongSize, beyond, wrongColumn, wrong}
 use Rattle.commands.specs.Required.{among, curved, onCurve, required}
 use Rattle.tape.specs.declared.Answer.the-variants.{Accepted}
-use Rattle.tape.specs.Reading.{obeySize, obeyEntry, absent, obeyEnd, obey, next, readFrom, reading}
+use Rattle.tape.specs.Reading.{obeySize, obeyEntry, absent, lacksWeight, obeyEnd, obey, next, readFrom, reading}
 use Rattle.tape.specs.Tape.{stepReference}
 use Rattle.problem.specs.Model.{Problem, problemOf, planOf, multipliersOf, stateAt, modelSum, residual}
 use Rattle.problem.specs.Cost.{total, square, cost, planCost, Within}
@@ -52,7 +52,7 @@ only P p (suc k) i h l = let z : ⊥ = omega arith in absurd z
 pub between-floors : (reading bytes .answer ≡ Accepted) × Rival q D between × (residual (finer D q) (planOf 1 1 between) 0 0 ≡ pos 2048 *ℤ D)
     × (floorBy conjugateDown q y ≡ pos 1024) × (rivalCost q D between ≺ square D *ℤ pos 1024)
     × (floor q y ≡ pos 1023) × (square D *ℤ pos 1023 ≼ rivalCost q D between)
-unfolding unsigned signed _÷_ quotientUp sum pairCommand sizeCommand driftCommand columnCommand startCommand roundsCommand decoded wrongSize beyond outside any wrongColumn wrong among curved onCurve required obeySize obeyEntry absent obeyEnd obey next readFrom reading stepReference stateAt modelSum residual total cost planCost inputSlope adjoint carried stateSlope unweighted conjugate tilt piece pieces constant sizes floor conjugateDown piecesBy floorBy
+unfolding unsigned signed _÷_ quotientUp sum pairCommand sizeCommand driftCommand columnCommand startCommand roundsCommand decoded wrongSize beyond outside any wrongColumn wrong among curved onCurve required obeySize obeyEntry absent lacksWeight obeyEnd obey next readFrom reading stepReference stateAt modelSum residual total cost planCost inputSlope adjoint carried stateSlope unweighted conjugate tilt piece pieces constant sizes floor conjugateDown piecesBy floorBy
 between-floors = (
   refl,
   record {

@@ -14,7 +14,7 @@ use Rattle.commands.specs.Format.{pairCommand, sizeCommand, driftCommand, colum
 use Rattle.commands.specs.Required.{among, curved, onCurve, required}
 use Rattle.tape.specs.declared.Tape.{Tape}
 use Rattle.tape.specs.Tape.{stepReference}
-use Rattle.tape.specs.Reading.{obeySize, obeyEntry, absent, obeyEnd, obey, next, readFrom, reading}
+use Rattle.tape.specs.Reading.{obeySize, obeyEntry, absent, lacksWeight, obeyEnd, obey, next, readFrom, reading}
 use Rattle.problem.specs.Model.{problemOf, planOf, multipliersOf, stateAt, modelSum, rounded, sumAt}
 use Rattle.problem.specs.Cost.{total, cost, planCost, costOf}
 use Rattle.problem.specs.Dual.{inputSlope, adjoint, carried, stateSlope, unweighted, conjugate, tilt, piece, pieces, constant, sizes, floor, floorOf, gapOf, larger, most, ceiling, shows}
@@ -117,5 +117,5 @@ abbrev all : List (ℤ × ℤ)
 all = table ++ curveTable ++ weightlessTable
 
 figures : map (λ f. f .0) all ≡ map (λ f. f .1) all
-unfolding rows curveRows weightlessRows unsigned signed _÷_ quotientUp sum pairCommand sizeCommand driftCommand columnCommand startCommand roundsCommand decoded wrongSize beyond outside any wrongColumn wrong among curved onCurve required obeySize obeyEntry absent obeyEnd obey next readFrom reading stepReference stateAt modelSum rounded total cost planCost inputSlope adjoint carried stateSlope unweighted conjugate tilt piece pieces constant sizes floor larger most ceiling
+unfolding rows curveRows weightlessRows unsigned signed _÷_ quotientUp sum pairCommand sizeCommand driftCommand columnCommand startCommand roundsCommand decoded wrongSize beyond outside any wrongColumn wrong among curved onCurve required obeySize obeyEntry absent lacksWeight obeyEnd obey next readFrom reading stepReference stateAt modelSum rounded total cost planCost inputSlope adjoint carried stateSlope unweighted conjugate tilt piece pieces constant sizes floor larger most ceiling
 figures = refl

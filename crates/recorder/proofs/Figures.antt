@@ -10,13 +10,14 @@ use Rattle.integer.specs.Tests.{outside, any}
 use Rattle.commands.specs.Format.{pairCommand, sizeCommand, driftCommand, columnCommand, startCommand, roundsCommand, decoded, wrongSize, beyond, wrongColumn, wrong}
 use Rattle.commands.specs.Required.{among, curved, onCurve, required}
 use Rattle.tape.specs.Tape.{stepReference}
-use Rattle.tape.specs.Reading.{obeySize, obeyEntry, absent, obeyEnd, obey, next, readFrom, reading}
+use Rattle.tape.specs.Reading.{obeySize, obeyEntry, absent, lacksWeight, obeyEnd, obey, next, readFrom, reading}
 use Rattle.problem.specs.Model.{stateAt, modelSum, rounded, residual}
 use Rattle.problem.specs.Cost.{total, cost, planCost}
 use Rattle.problem.specs.Dual.{inputSlope, adjoint, carried, stateSlope, unweighted, conjugate, tilt, piece, pieces, constant, sizes, floor, larger, most, ceiling}
 use Rattle.problem.proofs.Figures.{bytes, wide, narrow, ample, rows}
 use Rattle.steps.specs.Steps.{ahead, minimiser, modelStates, dropped, verdict, ascended}
-use Rattle.rounds.specs.Lent.{listed, joined}
+use Rattle.ascent.specs.Correction.{correction}
+use Rattle.primal.specs.Lent.{listed, joined}
 use Rattle.rounds.specs.Running.{impossible, rounds}
 use Rattle.solver.specs.Solving.{solvingOn, solving}
 use Rattle.integer.specs.Encoding.{unsignedBytes, complement}
@@ -52,5 +53,5 @@ table =
     ∷ []
 
 pub figures : map (λ f. f .0) table ≡ map (λ f. f .1) table
-unfolding rows unsigned signed _÷_ quotientUp sum pairCommand sizeCommand driftCommand columnCommand startCommand roundsCommand decoded wrongSize beyond outside wrongColumn wrong among curved onCurve required obeySize obeyEntry absent obeyEnd obey next readFrom reading stepReference stateAt modelSum rounded residual total cost planCost inputSlope adjoint carried stateSlope unweighted conjugate tilt piece pieces constant sizes floor larger most ceiling limited any listed joined ahead minimiser modelStates dropped verdict ascended rounds solvingOn solving unsignedBytes complement numberBytes recording recordedAt
+unfolding rows unsigned signed _÷_ quotientUp sum pairCommand sizeCommand driftCommand columnCommand startCommand roundsCommand decoded wrongSize beyond outside wrongColumn wrong among curved onCurve required obeySize obeyEntry absent lacksWeight obeyEnd obey next readFrom reading stepReference stateAt modelSum rounded residual total cost planCost inputSlope adjoint carried stateSlope unweighted conjugate tilt piece pieces constant sizes floor larger most ceiling limited any listed joined ahead minimiser modelStates dropped verdict ascended correction rounds solvingOn solving unsignedBytes complement numberBytes recording recordedAt
 figures = refl

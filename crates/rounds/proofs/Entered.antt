@@ -19,13 +19,15 @@ use Rattle.steps.specs.declared.verdict.Verdict.the-variants.{Proved, Impossibl
 use Rattle.steps.specs.Steps.{ahead, minimiser, minimisers, candidate, verdict, ascended}
 use Rattle.steps.specs.Held.{HeldWhenProved}
 use Rattle.steps.proofs.ModelStates.{modelStates-cong, dropped-cong}
+use Rattle.ascent.specs.Correction.{correction}
+use Rattle.ascent.specs.Held.{Ascended}
 use Rattle.rounds.specs.declared.RoundState.{RoundState}
 use Rattle.rounds.specs.declared.Round.{Round}
-use Rattle.rounds.specs.Lent.{lentMultipliers, lentPlan}
-use Rattle.rounds.specs.Running.{aheadOf, minimisersOf, candidateOf, ascendedOf, Ending, proved, refused, ended, entered, rounds, start}
-use Rattle.rounds.specs.Held.{HeldState, lentOf, RoundFrom}
-use Rattle.rounds.proofs.Filled.{zeros-bounded}
-use Rattle.rounds.proofs.Lent.{lent-multipliers-at, lent-multipliers-cong, lent-plan-cong}
+use Rattle.primal.specs.Lent.{lentMultipliers, lentPlan, lentOf}
+use Rattle.rounds.specs.Running.{aheadOf, minimisersOf, candidateOf, residualsOf, ascendedOf, Ending, proved, refused, ended, entered, rounds, start}
+use Rattle.rounds.specs.Held.{HeldState, HeldResiduals, RoundFrom}
+use Rattle.primal.proofs.Filled.{zeros-bounded}
+use Rattle.primal.proofs.Lent.{lent-multipliers-at, lent-multipliers-cong, lent-plan-cong}
 
 -- ---- A round
 
@@ -84,11 +86,8 @@ module _ (t : Tape) (legal : Legal t) where
         (model-cong (t .n) (t .m) _ _ _ _ _ _ _ i (states-before _ k (t .n) (λ q j a b. states-same q j (omega arith) b)) (λ j b. inputs-same k j h b))
         (states-same k i h m)
 
-    lent-ascended : {next : List ℤ} →
-        HeldMultipliers (t .n) (t .horizon) (λ k i. ascended (t .gain) (padded l k i) (residual (problemOf t) (paddedPlan v) k i)) next →
-        ascendedOf t (lent l) ≡ lent next
-    lent-ascended h =
-        lent-multipliers-cong (t .n) (t .horizon) _ _ (λ k i a b. ap₂ (ascended (t .gain)) (lent-at l k i a b) (residual-same k i a b)) ∙ lent-held h
+    pub residuals-same : {e : List ℤ} → HeldResiduals t (paddedPlan v) e → residualsOf t (lent l) ≡ lent e
+    residuals-same h = lent-multipliers-cong (t .n) (t .horizon) _ _ (λ k i a b. residual-same k i a b ∙ sym (h .same k i a b))
 
     -- the plan counts only where the verdict is 'proved'
     ended-same : (r : Verdict) (plan : List ℤ) (k : ℕ) (y : List ℤ) (after : Ending) → HeldWhenProved r t (candidate (problemOf t) (paddedPlan v .u)) plan →
@@ -97,16 +96,22 @@ module _ (t : Tape) (legal : Legal t) where
     ended-same Impossible plan k y after h = refl
     ended-same Neither plan k y after h = refl
 
-    pub round-ends : (k : ℕ) (y previous plan : List ℤ) {next : List ℤ} {r : Verdict} →
+    pub round-ends : (k : ℕ) (y previous plan : List ℤ) {r : Verdict} →
         HeldMultipliers (t .n) (t .horizon) (λ s i. ahead (pos k) (padded y s i) (padded previous s i)) l → r ≡ verdict t (candidate (problemOf t) (paddedPlan v .u)) (padded l) →
-        HeldWhenProved r t (candidate (problemOf t) (paddedPlan v .u)) plan →
-        HeldMultipliers (t .n) (t .horizon) (λ s i. ascended (t .gain) (padded l s i) (residual (problemOf t) (paddedPlan v) s i)) next → (after : List ℤ → Ending) →
-        entered t k (aheadOf t k (lent y) (lent previous)) after ≡ ended r (k + 1) (lentPlan (t .n) (t .m) (t .horizon) (paddedPlan plan)) (lent l) (after (lent next))
-    round-ends k y previous plan {r = r} held e h up after =
+        HeldWhenProved r t (candidate (problemOf t) (paddedPlan v .u)) plan → (after : List ℤ → Ending) →
+        entered t k (aheadOf t k (lent y) (lent previous)) after
+        ≡ ended r (k + 1) (lentPlan (t .n) (t .m) (t .horizon) (paddedPlan plan)) (lent l) (after (ascendedOf t (lent l)))
+    round-ends k y previous plan {r = r} held e h after =
         ap (λ (a : List ℤ). entered t k a after) (lent-ahead k y previous held)
-        ∙ ap₂ (λ (c : Verdict) (a : Ending). ended c (k + 1) (lentPlan (t .n) (t .m) (t .horizon) (candidateOf t (lent l))) (lent l) a)
-        (verdict-same ∙ sym e) (ap after (lent-ascended up))
+        ∙ ap (λ (c : Verdict). ended c (k + 1) (lentPlan (t .n) (t .m) (t .horizon) (candidateOf t (lent l))) (lent l) (after (ascendedOf t (lent l))))
+        (verdict-same ∙ sym e)
         ∙ ended-same r plan (k + 1) (lent l) _ h
+
+  -- step 4
+  pub lent-ascended : (l e : List ℤ) {next : List ℤ} → residualsOf t (lent l) ≡ lent e → Ascended t l e next → ascendedOf t (lent l) ≡ lent next
+  lent-ascended l e is h =
+      lent-multipliers-cong (t .n) (t .horizon) _ _
+      (λ k i a b. ap₂ (λ (y : ℤ) (r : List ℤ). ascended y (correction t r (k * t .n + i))) (lent-at l k i a b) is) ∙ lent-held h
 
 -- ---- The rounds
 
@@ -136,17 +141,27 @@ module _ {t : Tape} {k : ℕ} {s : RoundState} (running : Running t k s) where
   module _ {r : Round} (enters : k < t .rounds) (round : RoundFrom t k s r) where
     pub whole-is : {c : Verdict} → r .verdict ≡ c → rounds t (t .rounds) 0 (start t) (start t)
         ≡ ended c (k + 1) (lentPlan (t .n) (t .m) (t .horizon) (paddedPlan (r .plan))) (lentOf t (r .ahead))
-        (rounds t (t .rounds - (k + 1)) (k + 1) (lentOf t (r .next .current)) (lentOf t (s .current)))
+        (rounds t (t .rounds - (k + 1)) (k + 1) (ascendedOf t (lentOf t (r .ahead))) (lentOf t (s .current)))
     unfolding rounds
     whole-is e =
         let l : t .rounds - k ≡ suc (t .rounds - (k + 1)) = omega (arith, running .early) in
         running .left ∙ ap (λ (left : ℕ). rounds t left k (lentOf t (s .current)) (lentOf t (s .previous))) l
         ∙ round .ends (λ next. rounds t (t .rounds - (k + 1)) (k + 1) next (lentOf t (s .current)))
         ∙ ap (λ (c : Verdict). ended c (k + 1) (lentPlan (t .n) (t .m) (t .horizon) (paddedPlan (r .plan))) (lentOf t (r .ahead))
-        (rounds t (t .rounds - (k + 1)) (k + 1) (lentOf t (r .next .current)) (lentOf t (s .current)))) e
+        (rounds t (t .rounds - (k + 1)) (k + 1) (ascendedOf t (lentOf t (r .ahead))) (lentOf t (s .current)))) e
 
-    pub running-next : r .verdict ≡ Neither → Running t (k + 1) (r .next)
-    running-next e = record { early = omega arith; left = rw (round .follows) (whole-is e); held = round .held }
+    pub running-next : Legal t → r .verdict ≡ Neither → {y : List ℤ} → Ascended t (r .ahead) (r .residuals) y
+        → (next : RoundState) → (next .current ≡ y) × (next .previous ≡ s .current) → Running t (k + 1) next
+    running-next legal e h next is = record {
+      early = omega arith;
+      left = rw (is .0, is .1, ← lent-ascended t legal (r .ahead) (r .residuals) (round .residuals) h) (whole-is e);
+      held = record {
+        blank = rw (is .0) (h .blank);
+        bounded = rw (is .0) (h .bounded);
+        blank-previous = rw (is .1) (running .held .blank);
+        bounded-previous = rw (is .1) (running .held .bounded);
+      };
+    }
 
   -- after the last round
   pub open-is : t .rounds ≤ k → rounds t (t .rounds) 0 (start t) (start t) ≡ refused (Open (t .rounds))

@@ -1,55 +1,36 @@
 -- What the array functions of a round fill: padded arrays that hold the numbers of its steps.
 use Prim.Native.Nat.{ℕ, _+_, _*_, _<_, _≤_}
 use mathlib.Core.Path.{_≡_, refl, _∙_, ap, ap₂}
-use mathlib.Core.Logic.{inl, inr, ⊎-elim}
+use mathlib.Core.Logic.{inl, ⊎-elim}
 use mathlib.Core.List.{List}
 use native.Mathlib.Omega.{arith}
 use lib.ListN.{replicate, length-replicate}
 use lib.IntN.{ℤ, pos, natAbs, _+ℤ_, _-ℤ_, _*ℤ_, zero-*ℤ}
 use Rattle.integer.specs.Places.{at, Bounded, Stretch, Steps}
-use Rattle.integer.proofs.Places.{lt-or-le, zeros, fill-at}
+use Rattle.integer.proofs.Places.{lt-or-le, fill-at}
 use Rattle.integer.proofs.Sum.{sum-zero}
-use Rattle.commands.specs.Ranges.{mostNumber, mostMultiplier}
+use Rattle.commands.specs.Ranges.{mostNumber}
 use Rattle.tape.specs.declared.Tape.{Tape}
 use Rattle.tape.specs.Legal.{Legal}
 use Rattle.problem.specs.Model.{Term, problemOf, stateAt, modelSum, residual}
 use Rattle.problem.specs.Dual.{inputSlope, stateSlope}
 use Rattle.primal.specs.Padded.{stateMatrix, inputMatrix, padded, paddedPlan, termAt}
 use Rattle.primal.specs.Terms.{blankTerm, TermsOf}
+use Rattle.primal.specs.Ranges.{mostResidual}
 use Rattle.primal.specs.Held.{BlankMultipliers, BlankPlan, HeldMultipliers, HeldPlan}
+use Rattle.primal.proofs.Filled.{everywhere, held-multipliers}
 use Rattle.primal.proofs.ModelSizes.{residualAt}
 use Rattle.primal.proofs.Padding.{model-padded}
 use Rattle.dual.specs.Slopes.{byPlace}
 use Rattle.dual.proofs.FloorPadding.{inputSlope-padded, stateSlope-padded}
 use Rattle.dual.proofs.ByPlace.{place-input, place-state}
-use Rattle.steps.specs.Steps.{ahead, minimiser, minimisers, ascended}
+use Rattle.steps.specs.Steps.{ahead, minimiser, minimisers}
 use Rattle.steps.specs.Held.{InputsWithin}
-use Rattle.steps.proofs.Blank.{ahead-zero, ascended-zero, minimiser-blank, size-ahead, size-ascended, size-minimiser, minimiser-within}
+use Rattle.rounds.specs.Held.{HeldResiduals}
+use Rattle.steps.proofs.Blank.{ahead-zero, minimiser-blank, size-ahead, size-minimiser, minimiser-within}
 
--- ---- Places filled from the front, with zeros behind them
+-- ---- Step 1
 
-module _ (c : ℕ) {w : ℕ} {f : ℕ → ℤ} {l : List ℤ} (fill : Stretch 0 w f (replicate c (pos 0)) l) where
-  behind : (p : ℕ) → w ≤ p → at l p ≡ pos 0
-  behind p h = fill .outside p (inr (omega arith)) ∙ zeros c p
-
-  -- a fact on 0 and on every number that is filled in holds of every place
-  everywhere : (P : ℤ → Type 0) → P (pos 0) → (p : ℕ) → (p < w → P (f p)) → P (at l p)
-  everywhere P none p some = ⊎-elim (λ h. rw (fill-at fill p h) (some h)) (λ h. rw (behind p h) none) (lt-or-le p w)
-
-pub zeros-bounded : {B : ℕ} (c : ℕ) → Bounded B (replicate c (pos 0))
-zeros-bounded c = record { each = λ p. rw (zeros c p) (omega arith) }
-
--- ---- Multipliers
-
-pub held-multipliers : {n N : ℕ} {f : ℕ → ℤ} {l : List ℤ} → n ≤ 6 → Stretch 0 (6 * N) f (replicate 72 (pos 0)) l →
-    ((p : ℕ) → natAbs (f p) ≤ mostMultiplier) → ((k i : ℕ) → k < N → n ≤ i → i < 6 → f (6 * k + i) ≡ pos 0) → HeldMultipliers n N (λ k i. f (6 * k + i)) l
-held-multipliers {n} {N} {f} {l} few fill size blank = record {
-  same = λ k i h m. fill-at fill (6 * k + i) (omega arith);
-  blank = record { each = λ k i h m. everywhere 72 fill (λ z. z ≡ pos 0) refl (6 * k + i) (λ r. blank k i (omega arith) h m) };
-  bounded = record { each = λ p. everywhere 72 fill (λ z. natAbs z ≤ mostMultiplier) (omega arith) p (λ _. size p) };
-}
-
--- step 1
 pub held-ahead : {n N : ℕ} (k : ℕ) {y previous l : List ℤ} → n ≤ 6 → BlankMultipliers n y → BlankMultipliers n previous →
     Stretch 0 (6 * N) (λ p. ahead (pos k) (at y p) (at previous p)) (replicate 72 (pos 0)) l →
     HeldMultipliers n N (λ s i. ahead (pos k) (padded y s i) (padded previous s i)) l
@@ -114,7 +95,7 @@ inputs-within {t} y legal held = record {
       (minimiser-within (problemOf t .inputTerm k j) (inputSlope (t .n) (problemOf t .B) y k j) (legal .ordered (t .n + j)));
 }
 
--- ---- Step 4
+-- ---- Step 4: the residuals
 
 module _ (t : Tape) (legal : Legal t) {v : List ℤ} (blank : BlankPlan (t .n) (t .m) v) where
   abbrev residualOf : ℕ → ℕ → ℤ
@@ -134,17 +115,15 @@ module _ (t : Tape) (legal : Legal t) {v : List ℤ} (blank : BlankPlan (t .n) (
       (sum-zero 4 _ (λ j m. rw (legal .blankB i j m (inl h)) (zero-*ℤ (paddedPlan v .u k j))))
       ∙ ap (λ (w : ℤ). pos 0 +ℤ pos 0 +ℤ w) (legal .blankDrift i h)) (blank .state k i e h l)
 
-  -- g is the step size as the code has it
-  pub held-ascended : {g : ℤ} {ahead e l : List ℤ} → BlankMultipliers (t .n) ahead → Steps 6 (t .horizon) residualOf e → g ≡ t .gain →
-      Stretch 0 (6 * t .horizon) (λ p. ascended g (at ahead p) (at e p)) (replicate 72 (pos 0)) l →
-      HeldMultipliers (t .n) (t .horizon) (λ k i. ascended (t .gain) (padded ahead k i) (residual (problemOf t) (paddedPlan v) k i)) l
-  held-ascended {ahead = ahead} {e = e} none steps is fill =
+  pub held-residuals : {e : List ℤ} → Steps 6 (t .horizon) residualOf e → Bounded mostResidual e → HeldResiduals t (paddedPlan v) e
+  held-residuals steps bounded =
+      let n = legal .steps .1 in
       let d = legal .states .1 in
-      let h = held-multipliers d (rw is at fill) (λ p. size-ascended (t .gain) (at ahead p) (at e p))
-      (λ k i a m o. let n = legal .steps .1 in
-      ap₂ (ascended (t .gain)) (none .each k i m o) (steps .each k i a o ∙ residual-none k i (omega arith) m o) ∙ ascended-zero (t .gain)) in
       record {
-        same = λ k i a b. h .same k i a b ∙ ap (ascended (t .gain) (padded ahead k i)) (steps .each k i a (omega arith) ∙ residual-is k i);
-        blank = h .blank;
-        bounded = h .bounded;
+        same = λ k i a b. steps .each k i a (omega arith) ∙ residual-is k i;
+        blank = record {
+          each = λ k i h l.
+              ⊎-elim (λ a. steps .each k i a l ∙ residual-none k i (omega arith) h l) (λ a. steps .rest (6 * k + i) (omega arith)) (lt-or-le k (t .horizon));
+        };
+        bounded = bounded;
       }

@@ -1,4 +1,4 @@
 -- Laws behind the proofs.
 pub mod Entered
 pub mod Filled
-pub mod Lent
+pub mod Figures

@@ -1,5 +1,6 @@
--- Document 01, "The rounds": the steps on multipliers as they are lent, and the rounds of a solve.
-use Prim.Native.Nat.{ℕ, zero, suc, _+_}
+-- Document 01, "The rounds": the steps on multipliers as they are lent, and the rounds of a solve. Step 4 has the correction of
+-- command 50 or of document 02, request 9.
+use Prim.Native.Nat.{ℕ, zero, suc, _+_, _*_}
 use mathlib.Core.List.{List}
 use lib.IntN.{ℤ, pos}
 use Rattle.tape.specs.declared.Tape.{Tape}
@@ -9,7 +10,8 @@ use Rattle.problem.specs.Model.{Plan, problemOf, multipliersOf, residual}
 use Rattle.steps.specs.declared.verdict.Verdict.{Verdict}
 use Rattle.steps.specs.declared.verdict.Verdict.the-variants as verdicts
 use Rattle.steps.specs.Steps.{ahead, minimisers, candidate, verdict, ascended}
-use Rattle.rounds.specs.Lent.{lentMultipliers, lentPlan}
+use Rattle.ascent.specs.Correction.{correction}
+use Rattle.primal.specs.Lent.{lentMultipliers, lentPlan}
 
 -- ---- The steps on multipliers as they are lent
 
@@ -26,11 +28,14 @@ minimisersOf t y = minimisers (problemOf t) (multipliersOf (t .n) y)
 abbrev pub candidateOf : Tape → List ℤ → Plan
 candidateOf t y = candidate (problemOf t) (minimisersOf t y .u)
 
--- 4
+-- 4: the residuals of the numbers of 2, by rows, and the next y
+abbrev pub residualsOf : Tape → List ℤ → List ℤ
+residualsOf t y = lentMultipliers (t .n) (t .horizon) (residual (problemOf t) (minimisersOf t y))
+
 abbrev pub ascendedOf : Tape → List ℤ → List ℤ
 ascendedOf t y =
     lentMultipliers (t .n) (t .horizon)
-    (λ s i. ascended (t .gain) (multipliersOf (t .n) y s i) (residual (problemOf t) (minimisersOf t y) s i))
+    (λ s i. ascended (multipliersOf (t .n) y s i) (correction t (residualsOf t y) (s * t .n + i)))
 
 -- ---- The rounds
 

@@ -1,4 +1,4 @@
-// A round from its state, by document 01's four steps, and the rounds of a solve.
+// A round from its state, by the first three of document 01's four steps, and the rounds of a solve.
 ghost use Prim.Native.Nat.{_<_, _≤_};
 ghost use mathlib.Core.Path.{_≡_};
 ghost use lib.ListN.{replicate};
@@ -6,14 +6,17 @@ ghost use lib.IntN.{pos, natAbs};
 ghost use Rattle.integer.specs.Places.{Bounded};
 ghost use Rattle.commands.specs.Ranges.{mostNumber, mostMultiplier};
 ghost use Rattle.tape.specs.Legal.{Legal};
-ghost use Rattle.problem.specs.Model.{problemOf, residual};
+ghost use Rattle.problem.specs.Model.{problemOf};
 ghost use Rattle.problem.specs.Dual.{floor, ceiling};
 ghost use Rattle.primal.specs.Padded.{padded, paddedPlan};
 ghost use Rattle.primal.specs.Terms.{TermsOf};
-ghost use Rattle.primal.specs.Held.{BlankPlan, BlankMultipliers, HeldPlan, HeldMultipliers};
-ghost use Rattle.steps.specs.Steps.{minimisers, verdict, ascended};
+ghost use Rattle.primal.specs.Held.{BlankPlan, BlankMultipliers, HeldPlan};
+ghost use Rattle.steps.specs.Steps.{minimisers};
 ghost use Rattle.rounds.specs.Running.{rounds, start};
-ghost use Rattle.rounds.specs.Held.{endingOf, HeldState, RoundFrom};
+ghost use Rattle.rounds.specs.Held.{endingOf, HeldState, HeldResiduals, RoundFrom};
+use ascent::ascend_by_band;
+use ascent::ascend_by_gain;
+use banded::factored_of;
 use dual::floor::offset;
 use dual::pieces::pieces;
 use dual::slopes::slopes;
@@ -22,7 +25,6 @@ use primal::model::residuals;
 use primal::terms::Terms;
 use steps::arrays::minimisers;
 use steps::arrays::multipliers_ahead;
-use steps::arrays::multipliers_ascended;
 use steps::verdict::Verdict;
 use steps::verdict::weigh;
 use tape::Tape;
@@ -65,15 +67,12 @@ fn dual_at(t: Tape, terms: Terms, y: [i64; 72]) -> Dual
     }
 }
 
-// Step 4: the y after y~, from the residuals of the numbers v of step 2.
-fn ascend(t: Tape, ahead: [i64; 72], v: [i64; 120]) -> [i64; 72]
-    requires { ⌜ Legal t × BlankMultipliers (t .n) ahead × Bounded mostMultiplier ahead × BlankPlan (t .n) (t .m) v × Bounded mostNumber v ⌝ }
-    ensures { λ r. ⌜ HeldMultipliers (t .n) (t .horizon) (λ k i. ascended (t .gain) (padded ahead k i) (residual (problemOf t) (paddedPlan v) k i)) r ⌝ }
+// The residuals of the numbers v of step 2.
+fn residuals_of(t: Tape, v: [i64; 120]) -> [i64; 72]
+    requires { ⌜ Legal t × BlankPlan (t .n) (t .m) v × Bounded mostNumber v ⌝ }
+    ensures { λ r. ⌜ HeldResiduals t (paddedPlan v) r ⌝ }
 {
-    let horizon = t.horizon;
-    let gain = t.gain;
-    let e = residuals(&t.a, &t.b, &t.drift, &t.start, &v, horizon);
-    multipliers_ascended(&ahead, &e, gain, horizon)
+    residuals(&t.a, &t.b, &t.drift, &t.start, &v, t.horizon)
 }
 
 // The multipliers y of a round, and those before them.
@@ -82,13 +81,13 @@ pub struct RoundState {
     pub previous: [i64; 72],
 }
 
-// What a round gives: its verdict, the candidate where that is 'proved', y~, and the state that the
-// next round starts from.
+// What steps 1 to 3 of a round give: its verdict, the candidate where that is 'proved', y~, and the
+// residuals of the numbers of step 2.
 pub struct Round {
     pub verdict: Verdict,
     pub plan: [i64; 120],
     pub ahead: [i64; 72],
-    pub next: RoundState,
+    pub residuals: [i64; 72],
 }
 
 impl RoundState {
@@ -102,29 +101,36 @@ impl RoundState {
         }
     }
 
-    // Round k, by the four steps; the ceiling is the same in all rounds.
+    // The state with the next y: the one that was current goes before it.
+    fn next(self, y: [i64; 72]) -> RoundState
+        ensures { λ r. ⌜ (r .current ≡ y) × (r .previous ≡ self .current) ⌝ }
+    {
+        let current = self.current;
+        RoundState {
+            current: y,
+            previous: current,
+        }
+    }
+
+    // Round k up to its verdict; the ceiling is the same in all rounds.
     fn round(self, t: Tape, terms: Terms, highest: i64, k: usize) -> Round
         requires { ⌜ Legal t × TermsOf t (terms .penalty) (terms .low) (terms .high) (terms .reference) ⌝ }
         requires { ⌜ (highest ≡ ceiling (problemOf t)) × (k < t .rounds) × HeldState t self ⌝ }
         ensures { λ r. ⌜ RoundFrom t k self r ⌝ }
     {
         let horizon = t.horizon;
-        let current = self.current;
         let ahead = multipliers_ahead(&self.current, &self.previous, k as i64, horizon);
         let dual = dual_at(t, terms, ahead);
         let v = dual.numbers;
         let weighed = weigh(t, terms, highest, dual.floor, v);
-        let ascended = ascend(t, ahead, v);
+        let e = residuals_of(t, v);
         let verdict = weighed.verdict;
         let plan = weighed.plan;
         Round {
             verdict: verdict,
             plan: plan,
             ahead: ahead,
-            next: RoundState {
-                current: ascended,
-                previous: current,
-            },
+            residuals: e,
         }
     }
 }
@@ -156,6 +162,8 @@ pub fn run_rounds(t: Tape, terms: Terms) -> Outcome
         &terms.reference,
         t.horizon,
     );
+    let factored = factored_of(t);
+    let rows = factored.rows;
     let mut state = RoundState::start();
     let mut k: usize = 0;
     while k < limit {
@@ -163,6 +171,7 @@ pub fn run_rounds(t: Tape, terms: Terms) -> Outcome
         let verdict = round.verdict;
         let plan = round.plan;
         let ahead = round.ahead;
+        let e = round.residuals;
         let entered = k + 1;
         match verdict {
             Verdict::Proved(gap) => {
@@ -181,7 +190,12 @@ pub fn run_rounds(t: Tape, terms: Terms) -> Outcome
             }
             Verdict::Neither => {}
         }
-        state = round.next;
+        let next = if factored.usable {
+            ascend_by_band(t, rows, ahead, e)
+        } else {
+            ascend_by_gain(t, ahead, e)
+        };
+        state = state.next(next);
         k = entered;
     }
     let plan = [0i64; 120];

@@ -14,13 +14,14 @@ use Rattle.commands.specs.Format.{pairCommand, sizeCommand, driftCommand, colum
 use Rattle.commands.specs.Required.{among, curved, onCurve, required}
 use Rattle.tape.specs.declared.refusal.Refusal.the-variants.{Length}
 use Rattle.tape.specs.Tape.{stepReference}
-use Rattle.tape.specs.Reading.{obeySize, obeyEntry, absent, obeyEnd, obey, next, readFrom, reading}
+use Rattle.tape.specs.Reading.{obeySize, obeyEntry, absent, lacksWeight, obeyEnd, obey, next, readFrom, reading}
 use Rattle.problem.specs.Model.{stateAt, modelSum, rounded, residual}
 use Rattle.problem.specs.Cost.{total, cost, planCost}
 use Rattle.problem.specs.Dual.{inputSlope, adjoint, carried, stateSlope, unweighted, conjugate, tilt, piece, pieces, constant, sizes, floor, larger, most, ceiling}
 use Rattle.problem.proofs.Figures.{bytes, wide, narrow, ample}
 use Rattle.steps.specs.Steps.{ahead, minimiser, modelStates, dropped, verdict, ascended}
-use Rattle.rounds.specs.Lent.{listed, joined}
+use Rattle.ascent.specs.Correction.{correction}
+use Rattle.primal.specs.Lent.{listed, joined}
 use Rattle.rounds.specs.Running.{rounds}
 use Rattle.solver.specs.declared.Duties.{Duties}
 use Rattle.solver.specs.declared.Solved.the-variants.{Refused}
@@ -63,7 +64,7 @@ table =
     ∷ []
 
 pub figures : map (λ f. f .0) table ≡ map (λ f. text (f .1)) table
-unfolding solutionOf unsigned signed _÷_ quotientUp sum pairCommand sizeCommand driftCommand columnCommand startCommand roundsCommand decoded wrongSize beyond outside wrongColumn wrong among curved onCurve required obeySize obeyEntry absent obeyEnd obey next readFrom reading stepReference stateAt modelSum rounded residual total cost planCost inputSlope adjoint carried stateSlope unweighted conjugate tilt piece pieces constant sizes floor larger most ceiling limited listed joined ahead minimiser modelStates dropped verdict ascended rounds solvingOn solving duty any digits
+unfolding solutionOf unsigned signed _÷_ quotientUp sum pairCommand sizeCommand driftCommand columnCommand startCommand roundsCommand decoded wrongSize beyond outside wrongColumn wrong among curved onCurve required obeySize obeyEntry absent lacksWeight obeyEnd obey next readFrom reading stepReference stateAt modelSum rounded residual total cost planCost inputSlope adjoint carried stateSlope unweighted conjugate tilt piece pieces constant sizes floor larger most ceiling limited listed joined ahead minimiser modelStates dropped verdict ascended correction rounds solvingOn solving duty any digits
 figures = refl
 
 -- F's range, whose root is not counted up to
@@ -73,5 +74,5 @@ withRange range =
     provedLines 2 (pos 32768) (record { u0 = pos 4; u1 = pos 0; u2 = pos 0; u3 = pos 0 }) (record { u0 = range; u1 = none; u2 = none; u3 = none }) 1
 
 pub slip-F : tapeSlip F ≡ text "proved\nrounds 2\ngap 32768\nfirst 4\nrange 1 7\n"
-unfolding solutionOf unsigned signed _÷_ quotientUp sum pairCommand sizeCommand driftCommand columnCommand startCommand roundsCommand decoded wrongSize beyond outside wrongColumn wrong among curved onCurve required obeySize obeyEntry absent obeyEnd obey next readFrom reading stepReference stateAt modelSum rounded residual total cost planCost inputSlope adjoint carried stateSlope unweighted conjugate tilt piece pieces constant sizes floor larger most ceiling limited listed joined ahead minimiser modelStates dropped verdict ascended rounds solvingOn solving duty any digits dutyRange withRange
+unfolding solutionOf unsigned signed _÷_ quotientUp sum pairCommand sizeCommand driftCommand columnCommand startCommand roundsCommand decoded wrongSize beyond outside wrongColumn wrong among curved onCurve required obeySize obeyEntry absent lacksWeight obeyEnd obey next readFrom reading stepReference stateAt modelSum rounded residual total cost planCost inputSlope adjoint carried stateSlope unweighted conjugate tilt piece pieces constant sizes floor larger most ceiling limited listed joined ahead minimiser modelStates dropped verdict ascended correction rounds solvingOn solving duty any digits dutyRange withRange
 slip-F = ap withRange range-F

@@ -32,9 +32,9 @@ use Rattle.judge.proofs.Accepted.{passes, backed, founded}
 use Rattle.steps.specs.Steps.{modelStates, candidate, exceeds, dropped, gap, verdict}
 use Rattle.steps.proofs.Blank.{size-ahead}
 use Rattle.steps.proofs.ModelStates.{model-states}
-use Rattle.rounds.specs.Lent.{lentPlan}
+use Rattle.primal.specs.Lent.{lentPlan}
 use Rattle.rounds.specs.Running.{aheadOf, candidateOf, Ending, proved, impossible, refused, ended, rounds}
-use Rattle.rounds.proofs.Lent.{length-lent-multipliers, lent-multipliers-bounded, length-lent-plan, lent-plan-input, lent-plan-state}
+use Rattle.primal.proofs.Lent.{length-lent-multipliers, lent-multipliers-bounded, length-lent-plan, lent-plan-input, lent-plan-state}
 use Rattle.solver.specs.declared.Solved.{Solved}
 use Rattle.solver.specs.declared.Solved.the-variants.{Proved, Impossible, Refused}
 use Rattle.solver.specs.Solving.{solvingOn, endingAfterRead, solving, firstDuties, answerOf, planLeft, multipliersLeft}

@@ -15,7 +15,7 @@ use Rattle.tape.specs.declared.refusal.Carried.{Carried}
 use Rattle.tape.specs.declared.refusal.Carried.the-variants as carries
 use Rattle.tape.specs.declared.refusal.Refusal.{Refusal}
 use Rattle.tape.specs.Tape.{stepReference}
-use Rattle.tape.specs.Reading.{obeySize, obeyEntry, absent, obeyEnd, obey, next, readFrom, reading}
+use Rattle.tape.specs.Reading.{obeySize, obeyEntry, absent, lacksWeight, obeyEnd, obey, next, readFrom, reading}
 use Rattle.tape.specs.Refusals.{row}
 use Rattle.problem.specs.Model.{stateAt, modelSum, rounded, residual}
 use Rattle.problem.specs.Cost.{total, cost, planCost}
@@ -28,7 +28,8 @@ use Rattle.judge.specs.declared.Shown.{Shown}
 use Rattle.judge.specs.declared.Shown.the-variants as showing
 use Rattle.judge.specs.Judging.{gapWithin, judgedOn, judged, shownOn, shown}
 use Rattle.steps.specs.Steps.{ahead, minimiser, modelStates, dropped, verdict, ascended}
-use Rattle.rounds.specs.Lent.{listed, joined}
+use Rattle.ascent.specs.Correction.{correction}
+use Rattle.primal.specs.Lent.{listed, joined}
 use Rattle.rounds.specs.Running.{Ending, proved, impossible, refused, rounds}
 use Rattle.solver.specs.Solving.{solvingOn, solving}
 
@@ -115,5 +116,5 @@ abbrev all : List (List ℤ × List ℤ)
 all = whole ++ weightlessSolves ++ reports
 
 pub figures : map (λ f. f .0) all ≡ map (λ f. f .1) all
-unfolding rows unsigned signed _÷_ quotientUp sum pairCommand sizeCommand driftCommand columnCommand startCommand roundsCommand decoded wrongSize beyond outside wrongColumn wrong among curved onCurve required obeySize obeyEntry absent obeyEnd obey next readFrom reading stepReference stateAt modelSum rounded residual total cost planCost inputSlope adjoint carried stateSlope unweighted conjugate tilt piece pieces constant sizes floor larger most ceiling limited any first tested stateCheck stepCheck planCheck gapWithin judgedOn judged shownOn shown listed joined ahead minimiser modelStates dropped verdict ascended rounds solvingOn solving
+unfolding rows unsigned signed _÷_ quotientUp sum pairCommand sizeCommand driftCommand columnCommand startCommand roundsCommand decoded wrongSize beyond outside wrongColumn wrong among curved onCurve required obeySize obeyEntry absent lacksWeight obeyEnd obey next readFrom reading stepReference stateAt modelSum rounded residual total cost planCost inputSlope adjoint carried stateSlope unweighted conjugate tilt piece pieces constant sizes floor larger most ceiling limited any first tested stateCheck stepCheck planCheck gapWithin judgedOn judged shownOn shown listed joined ahead minimiser modelStates dropped verdict ascended correction rounds solvingOn solving
 figures = refl

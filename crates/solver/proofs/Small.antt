@@ -22,7 +22,7 @@ use Rattle.lent.specs.Checks.{wrongPlanLength, wrongMultipliersLength}
 use Rattle.steps.specs.declared.verdict.Verdict.{Verdict}
 use Rattle.steps.specs.declared.verdict.Verdict.the-variants.{Proved, Impossible, Neither}
 use Rattle.steps.specs.Steps.{verdict}
-use Rattle.rounds.specs.Lent.{lentPlan}
+use Rattle.primal.specs.Lent.{lentPlan}
 use Rattle.rounds.specs.Running.{aheadOf, candidateOf, ascendedOf, Ending, ended, rounds}
 use Rattle.rounds.specs.Running as running
 use Rattle.solver.specs.declared.Solved.{Solved}

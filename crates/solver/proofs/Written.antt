@@ -11,8 +11,8 @@ use Rattle.integer.specs.Places.{at}
 use Rattle.integer.proofs.Places.{step-room}
 use Rattle.integer.proofs.Middle.{length-part, length-put, front-put}
 use Rattle.problem.specs.Model.{Plan}
-use Rattle.rounds.specs.Lent.{listed, joined, lentPlan}
-use Rattle.rounds.proofs.Lent.{length-listed, joined-more, lent-plan-input}
+use Rattle.primal.specs.Lent.{listed, joined, lentPlan}
+use Rattle.primal.proofs.Lent.{length-listed, joined-more, lent-plan-input}
 
 -- ---- Two parts
 

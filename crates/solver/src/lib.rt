@@ -9,7 +9,7 @@ ghost use Rattle.commands.specs.Ranges.{mostNumber, mostMultiplier};
 ghost use Rattle.tape.specs.Legal.{Legal};
 ghost use Rattle.tape.specs.Reading.{reading};
 ghost use Rattle.primal.specs.Padded.{paddedPlan};
-ghost use Rattle.rounds.specs.Lent.{lentPlan};
+ghost use Rattle.primal.specs.Lent.{lentPlan};
 ghost use Rattle.rounds.specs.Held.{endingOf};
 ghost use Rattle.solver.specs.Solving.{solvingOn, solving, duty, firstDuties, answerOf, planLeft, multipliersLeft};
 ghost use Rattle.solver.specs.Demand.{Upheld, JudgedAgain, RoundsWithin};

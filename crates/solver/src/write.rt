@@ -6,7 +6,7 @@ ghost use lib.ListN.{length};
 ghost use Rattle.integer.specs.Places.{at, Bounded};
 ghost use Rattle.commands.specs.Ranges.{mostNumber, mostMultiplier};
 ghost use Rattle.primal.specs.Padded.{padded, paddedPlan};
-ghost use Rattle.rounds.specs.Lent.{listed, lentMultipliers, lentPlan};
+ghost use Rattle.primal.specs.Lent.{listed, lentMultipliers, lentPlan};
 
 // Fills a part with the numbers from a place on.
 fn write_numbers(part: &mut [i32], from: &[i64], first: usize)

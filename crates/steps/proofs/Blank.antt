@@ -16,15 +16,15 @@ use Rattle.problem.specs.Cost.{Within}
 use Rattle.problem.specs.Dual.{weightless}
 use Rattle.problem.proofs.Piece.{one-limit}
 use Rattle.primal.specs.Terms.{blankTerm}
-use Rattle.steps.specs.Steps.{ahead, minimiser, ascended}
+use Rattle.steps.specs.Steps.{ahead, minimiser, ascended, gainCorrection}
 
 pub size-ahead : (k y previous : ℤ) → natAbs (ahead k y previous) ≤ mostMultiplier
 unfolding ahead
 size-ahead k y previous = size-limited (negℤ (pos mostMultiplier)) (pos mostMultiplier) _ (omega arith) (omega arith)
 
-pub size-ascended : (gain y e : ℤ) → natAbs (ascended gain y e) ≤ mostMultiplier
+pub size-ascended : (y correction : ℤ) → natAbs (ascended y correction) ≤ mostMultiplier
 unfolding ascended
-size-ascended gain y e = size-limited (negℤ (pos mostMultiplier)) (pos mostMultiplier) _ (omega arith) (omega arith)
+size-ascended y correction = size-limited (negℤ (pos mostMultiplier)) (pos mostMultiplier) _ (omega arith) (omega arith)
 
 pub size-minimiser : (t : Term) (s : ℤ) → natAbs (t .low) ≤ mostNumber → natAbs (t .high) ≤ mostNumber → natAbs (minimiser t s) ≤ mostNumber
 unfolding minimiser
@@ -46,7 +46,7 @@ pub ahead-zero : (k : ℕ) → ahead (pos k) (pos 0) (pos 0) ≡ pos 0
 unfolding ahead _÷_ limited
 ahead-zero k = rw (*ℤ-zero (pos k -ℤ pos 1), zero-div (natAbs (pos k +ℤ pos 2)))
 
-pub ascended-zero : (gain : ℤ) → ascended gain (pos 0) (pos 0) ≡ pos 0
+pub ascended-zero : (gain : ℤ) → ascended (pos 0) (gainCorrection gain (pos 0)) ≡ pos 0
 unfolding ascended _÷_ limited
 ascended-zero gain = rw (zero-*ℤ gain)
 

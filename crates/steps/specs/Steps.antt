@@ -67,7 +67,11 @@ verdict t v y =
     (Proved (gap (problemOf t) v y))
     (cond (shows (problemOf t) y) Impossible Neither)
 
--- ---- 4. The next y, from y~ and the residual e of the numbers of 2
+-- ---- 4. The next y, from y~ and its correction
 
-unfoldable pub ascended : ℤ → ℤ → ℤ → ℤ
-ascended gain y e = multiplier (y +ℤ (e *ℤ gain +ℤ pos 32768) ÷ pos 65536)
+unfoldable pub ascended : ℤ → ℤ → ℤ
+ascended y correction = multiplier (y +ℤ correction)
+
+-- command 50's correction, from the residual e of the numbers of 2
+abbrev pub gainCorrection : ℤ → ℤ → ℤ
+gainCorrection gain e = (e *ℤ gain +ℤ pos 32768) ÷ pos 65536

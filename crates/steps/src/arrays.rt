@@ -8,7 +8,7 @@ ghost use Rattle.commands.specs.Ranges.{mostGain, mostRounds, mostMultiplier};
 ghost use Rattle.primal.specs.Padded.{termAt};
 ghost use Rattle.primal.specs.Ranges.{Tables, mostResidual};
 ghost use Rattle.dual.specs.Slopes.{mostSlope};
-ghost use Rattle.steps.specs.Steps.{ahead, minimiser, ascended};
+ghost use Rattle.steps.specs.Steps.{ahead, minimiser, ascended, gainCorrection};
 use crate::numbers::ahead_of;
 use crate::numbers::ascended_of;
 use crate::numbers::minimiser_of;
@@ -57,10 +57,10 @@ pub fn minimisers<'a>(
     v
 }
 
-// Step 4, from the residuals e.
+// Step 4 by command 50, from the residuals e.
 pub fn multipliers_ascended(y: &[i64; 72], e: &[i64; 72], gain: i64, horizon: usize) -> [i64; 72]
     requires { ⌜ (natAbs gain ≤ mostGain) × (horizon ≤ 12) × Bounded mostMultiplier (now y) × Bounded mostResidual (now e) ⌝ }
-    ensures { λ r. ⌜ Stretch 0 (6 * horizon) (λ p. ascended gain (at (now (y .entry)) p) (at (now (e .entry)) p)) (replicate 72 (pos 0)) r ⌝ }
+    ensures { λ r. ⌜ Stretch 0 (6 * horizon) (λ p. ascended (at (now (y .entry)) p) (gainCorrection gain (at (now (e .entry)) p))) (replicate 72 (pos 0)) r ⌝ }
 {
     let count = 6 * horizon;
     let mut next = [0i64; 72];

@@ -7,7 +7,7 @@ ghost use Rattle.commands.specs.Ranges.{mostGain, mostRounds, mostMultiplier};
 ghost use Rattle.primal.specs.Padded.{termOf};
 ghost use Rattle.primal.specs.Ranges.{Ranged, mostResidual};
 ghost use Rattle.dual.specs.Slopes.{mostSlope};
-ghost use Rattle.steps.specs.Steps.{ahead, minimiser, ascended};
+ghost use Rattle.steps.specs.Steps.{ahead, minimiser, ascended, gainCorrection};
 use commands::range::LEAST_MULTIPLIER;
 use commands::range::MOST_MULTIPLIER;
 use dual::pieces::unweighted_of;
@@ -38,10 +38,10 @@ pub fn minimiser_of(p: i64, low: i64, high: i64, r: i64, s: i64) -> i64
     limit(quotient(2 * p * r - s + p, 2 * p), low, high)
 }
 
-// The multiplier that follows y, from the residual e and the step size.
+// The multiplier that follows y by command 50, from the residual e and the step size.
 pub fn ascended_of(gain: i64, y: i64, e: i64) -> i64
     requires { ⌜ (natAbs gain ≤ mostGain) × (natAbs y ≤ mostMultiplier) × (natAbs e ≤ mostResidual) ⌝ }
-    ensures { λ r. ⌜ r ≡ ascended gain y e ⌝ }
+    ensures { λ r. ⌜ r ≡ ascended y (gainCorrection gain e) ⌝ }
 {
     limit(
         y + quotient(e * gain + 32768, 65536),

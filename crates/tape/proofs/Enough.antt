@@ -22,7 +22,7 @@ Moved from (Refused why) to = Unit {0}
 moved : (s : List ℕ) (q : Reader) → let r = next s q in Moved (q .at) (r .verdict) (r .at)
 moved s q =
     next-leads (λ r. Moved (q .at) (r .verdict) (r .at)) s q
-    (record { refused = λ _ _. tt; size = λ n m horizon _ _. omega arith; entry = λ e _ _ _ _ _. omega (arith, some-bytes e); ended = λ _ _ _. tt })
+    (record { refused = λ _ _. tt; size = λ n m horizon _ _. omega arith; entry = λ e _ _ _ _ _. omega (arith, some-bytes e); ended = λ _ _ _ _. tt })
 
 -- a count that reaches the end, and a larger one
 larger : (s : List ℕ) (left more : ℕ) (q : Reader) → left ≤ more → length s ≤ q .at + left → readFrom s more q ≡ readFrom s left q

@@ -1,4 +1,4 @@
--- `legal`: every accepted tape is legal. From command 10 on each command keeps `Good`; FF finds the mark of command 50, which says the rest.
+-- `legal`: every accepted tape is legal. From command 10 on each command keeps `Good`; FF finds the mark of command 50 or 51, which says the rest, and no weight of 0 beside 51.
 use Prim.Native.Nat.{ℕ, zero, suc, _+_, _*_, _^_, _<_, _≤_}
 use mathlib.Core.Path.{_≡_, refl, sym, _∙_, subst}
 use mathlib.Core.Logic.{_⊎_, inl, inr, ⊎-elim}
@@ -11,7 +11,7 @@ use lib.Dec.{eqb, ltb, leb}
 use lib.ListN.{length, getD, set, replicate, length-set, length-replicate}
 use lib.Seq.{getD-set-same, getD-set-other}
 use lib.IntN.{ℤ, pos, negsuc, natAbs}
-use lib.Signed.{ltZ}
+use lib.Signed.{leZ, ltZ}
 use Rattle.integer.specs.Order.{_≼_}
 use Rattle.integer.specs.Places.{at, Bounded}
 use Rattle.integer.specs.Tests.{outside}
@@ -24,7 +24,7 @@ use Rattle.commands.specs.declared.Command.{Command}
 use Rattle.commands.specs.declared.Command.the-variants as command
 use Rattle.commands.specs.declared.Entry.{Entry}
 use Rattle.commands.specs.declared.Entry.the-variants.{State, Input, Drift, Column, Reference, Start, Rounds}
-use Rattle.commands.specs.Format.{whole, decoded, pairCommand, sizeCommand, driftCommand, columnCommand, startCommand, roundsCommand}
+use Rattle.commands.specs.Format.{whole, unsignedAt, decoded, pairCommand, sizeCommand, driftCommand, columnCommand, startCommand, roundsCommand}
 use Rattle.commands.specs.Format.{wrongSize, beyond, wrongColumn, wrong, placeOf}
 use Rattle.commands.specs.Marks.{statePlace, inputPlace, driftPlace, columnPlace, startPlace, roundsPlace, referencePlace, placeCount, marked}
 use Rattle.commands.specs.Required.{required}
@@ -39,10 +39,10 @@ use Rattle.tape.specs.declared.refusal.Refusal.{Refusal}
 use Rattle.tape.specs.declared.refusal.Refusal.the-variants.{Cut}
 use Rattle.tape.specs.Tape.{blank, withSize, with}
 use Rattle.tape.specs.Legal.{Legal}
-use Rattle.tape.specs.Reading.{sized, absent, next, refusedTape, outcome, readFrom, opened, reading}
+use Rattle.tape.specs.Reading.{sized, absent, lacksWeight, next, refusedTape, outcome, readFrom, opened, reading}
 use Rattle.tape.proofs.Steps.{next-leads}
 
--- ---- Command 50: no test limits `gain` from above, nor `wanted`; the widths of their operands do
+-- ---- Commands 50 and 51: no test limits `gain` from above, nor `wanted`; the widths of their operands do
 
 data Ranged : Command → Type 0 where
   unknown : Ranged command.Unknown
@@ -55,29 +55,33 @@ data Ranged : Command → Type 0 where
   column : {c : ℕ} {lo hi r h : ℤ} → Ranged (command.Give (Column c lo hi r h))
   reference : {c k : ℕ} {r : ℤ} → Ranged (command.Give (Reference c k r))
   start : {i : ℕ} {v : ℤ} → Ranged (command.Give (Start i v))
-  rounds : {g r w : ℕ} → g < 256 ^ 2 → w < 256 ^ 4 → Ranged (command.Give (Rounds (pos g) r (pos w)))
+  rounds : {banded : Bool} {g r w : ℕ} → g < 256 ^ 2 → w < 256 ^ 4 → Ranged (command.Give (Rounds banded (pos g) r (pos w)))
 
 ranged : (s : List ℕ) (at : ℕ) → Bytes s → Ranged (decoded s at)
 unfolding decoded pairCommand sizeCommand driftCommand columnCommand startCommand roundsCommand
 ranged s at b =
     row 0x10 3 (λ _. size) (row 0x20 4 (λ _. state) (row 0x21 4 (λ _. input) (row 0x22 5 (λ _. drift) (row 0x30 8 (λ _. column) (row 0x31 4 (λ _. reference) (row 0x40 3 (λ _. start)
-    (row 0x50 8 (λ h. rounds (unsigned-range 2 s (at + 1) b (omega arith)) (unsigned-range 4 s (at + 5) b (omega arith)))
-    (by-test Ranged (eqb (getD s at 0) 0xFF) (λ _. end) (λ _. unknown)))))))))
+    (row 0x50 8 timed-row (row 0x51 8 timed-row
+    (by-test Ranged (eqb (getD s at 0) 0xFF) (λ _. end) (λ _. unknown))))))))))
   where
+    timed-row : {banded : Bool} → at + 8 < length s →
+        Ranged (command.Give (Rounds banded (pos (unsignedAt 2 s (at + 1))) (unsignedAt 2 s (at + 3)) (pos (unsignedAt 4 s (at + 5)))))
+    timed-row h = rounds (unsigned-range 2 s (at + 1) b (omega arith)) (unsigned-range 4 s (at + 5) b (omega arith))
+
     row : (byte operands : ℕ) {c others : Command} → (at + operands < length s → Ranged c) → Ranged others →
         Ranged (cond (eqb (getD s at 0) byte) (whole operands s at c) others)
     row byte operands h o =
         by-test Ranged (eqb (getD s at 0) byte) (λ _. by-test Ranged (leb (length s) (at + operands)) (λ _. cut) (λ e. h (leb-false _ _ e))) (λ _. o)
 
--- what command 50 gives
+-- what command 50 or 51 gives
 record Timed (g : ℤ) (r : ℕ) (w : ℤ) : Type 0 where
   gain : (pos 1 ≼ g) × (g ≼ pos 65535)
   rounds : (1 ≤ r) × (r ≤ 10000)
   wanted : (pos 0 ≼ w) × (w ≼ pos 4294967295)
 
-timed : {g : ℤ} {r : ℕ} {w : ℤ} → Ranged (command.Give (Rounds g r w)) → wrong (Rounds g r w) ≡ false → Timed g r w
+timed : {banded : Bool} {g : ℤ} {r : ℕ} {w : ℤ} → Ranged (command.Give (Rounds banded g r w)) → wrong (Rounds banded g r w) ≡ false → Timed g r w
 unfolding wrong
-timed (rounds {g} {r} {w} x y) e =
+timed (rounds {g = g} {r = r} x y) e =
     let o = none (ltZ (pos g) (pos 1)) (ltb r 1 ∷ ltb 10000 r ∷ []) e in omega (arith, order, ltb-false)
 
 -- ---- Tables
@@ -130,7 +134,7 @@ record Columns (w : ℕ) (lo hi r h : List ℤ) : Type 0 where
   ordered : (p : ℕ) → at lo p ≼ at hi p
   weighed : (p : ℕ) → pos 0 ≼ at h p
 
--- sizes, A, B, w, x(0), columns, references by step, and command 50 where it has its mark
+-- sizes, A, B, w, x(0), columns, references by step, and command 50 or 51 where it has its mark
 data Good (t : Tape) (given : List Bool) : Type 0 where
   good : Sizes (t .n) (t .m) (t .horizon) →
       Table 36 16384 (Off 6 (t .n) (t .n)) (t .a) →
@@ -165,7 +169,7 @@ right-column lo hi r h e =
       weight = in-range (pos 0) (pos 255) h (o .1 .1 .1 .1 .0);
     }
 
--- no other command gives 50's mark
+-- no other command gives the mark of 50 and 51
 not-timed : (g : List Bool) {F : Type 0} (k : ℕ) → (roundsPlace ≡ k → ⊥) → (marked g roundsPlace ≡ true → F) → marked (set g k true) roundsPlace ≡ true → F
 not-timed g k n f e = f (sym (getD-set-other g k roundsPlace true false n) ∙ e)
 
@@ -212,7 +216,7 @@ entry-kept {t} {g} (Reference p q v) _ u r (good z a b w x c f k) =
 entry-kept {t} {g} (Start i v) _ u r (good z a b w x c f k) =
     let h = leb-false (t .n) i u in
     good z a b w (stored i v x (omega arith) (in-size 20000 v r)) c f (not-timed g (startPlace + i) (omega arith) k)
-entry-kept (Rounds _ _ _) g _ r (good z a b w x c f k) = good z a b w x c f (λ _. timed g r)
+entry-kept (Rounds _ _ _ _) g _ r (good z a b w x c f k) = good z a b w x c f (λ _. timed g r)
 
 -- ---- Command 10: until it comes nothing is given
 
@@ -235,7 +239,7 @@ once-sized : {t : Tape} {g : List Bool} → not (sized t) ≡ false → Kept t g
 once-sized u (inl k) = absurd (true≢false (rw (k .0) at u))
 once-sized u (inr k) = k
 
--- ---- FF: every mark that it asks for is there
+-- ---- FF: every mark that it asks for is there, and every weight that 51 asks for
 
 -- a required place that is not absent has its mark
 present : (n m horizon : ℕ) (g : List Bool) (p : ℕ) → absent n m horizon g ≡ false → p < placeCount → required n m horizon g p ≡ true → marked g p ≡ true
@@ -243,8 +247,14 @@ unfolding absent
 present n m horizon g p e h r =
     not-false (marked g p) (rw r at (any-none placeCount p (λ q. required n m horizon g q && not (marked g q)) h e))
 
-ended-legal : {t : Tape} {g : List Bool} → absent (t .n) (t .m) (t .horizon) g ≡ false → Good t g → Legal t
-ended-legal {t} {g} e (good z a b w x c f k) =
+-- beside command 51 a column has a weight
+weight-found : (t : Tape) (p : ℕ) → lacksWeight t ≡ false → t .banded ≡ true → p < t .n + t .m → pos 1 ≼ at (t .weight) p
+unfolding lacksWeight
+weight-found t p e d h =
+    let w = any-none (t .n + t .m) p (λ c. leZ (at (t .weight) c) (pos 0)) h (rw d at e) in omega (arith, order)
+
+ended-legal : {t : Tape} {g : List Bool} → absent (t .n) (t .m) (t .horizon) g ≡ false → lacksWeight t ≡ false → Good t g → Legal t
+ended-legal {t} {g} e l (good z a b w x c f k) =
     let there = present (t .n) (t .m) (t .horizon) g in
     let v = k (there roundsPlace e (omega arith) (required-rounds (t .n) (t .m) (t .horizon) g)) in
     record {
@@ -262,6 +272,7 @@ ended-legal {t} {g} e (good z a b w x c f k) =
       weight = c .weight .bounded;
       ordered = c .ordered;
       weighed = c .weighed;
+      banded-weighed = λ d p h. weight-found t p l d h;
       gain = v .gain;
       rounds = v .rounds;
       wanted = v .wanted;
@@ -291,7 +302,7 @@ next-holds s q b k =
       refused = λ _ _. tt;
       size = λ n m horizon u w. inr (size-kept n m horizon u w k);
       entry = λ e d u x w _. inr (entry-kept e (subst Ranged d (ranged s (q .at) b)) x w (once-sized u k));
-      ended = λ u a _. ended-legal a (once-sized u k);
+      ended = λ u a w _. ended-legal a w (once-sized u k);
     })
 
 pub legal : (s : List ℕ) → Bytes s → reading s .answer ≡ answer.Accepted → Legal (reading s .tape)

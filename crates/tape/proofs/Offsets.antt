@@ -1,8 +1,9 @@
 -- How far the commands of a tape reach: each but 10 marks a place that had no mark, so they soon end. No accepted tape is longer, and
--- a refusal, one of 1 to 8, carries no larger number.
+-- a refusal, one of 1 to 8 or 18, carries no larger number.
 use Prim.Native.Nat.{ℕ, zero, suc, _+_, _<_, _≤_}
 use mathlib.Core.Path.{_≡_, refl, ap, _∙_}
 use mathlib.Core.Bool.{Bool, true, false, cond}
+use mathlib.Core.Logic.{inl}
 use mathlib.Core.List.{List, [], _∷_}
 use native.Mathlib.Omega.{arith}
 use borrow.Author.Tests.{lt-ltb, ltb-false}
@@ -69,10 +70,10 @@ unfolding wrongSize bytesAhead decidingBytes
 next-stays s q small n =
     next-leads (λ r. Stays (length s) (q .at) (r .verdict) r) s q
     (record {
-      refused = λ why h. omega (arith, n .reach);
+      refused = λ why h. (h .0, omega (arith, n .reach));
       size = λ n′ m′ horizon u w. (omega arith, record { long = n .long; reach = size-reach n′ m′ horizon u w });
       entry = λ e _ _ b _ g. entry e b g;
-      ended = λ _ _ l. omega (arith, n .reach);
+      ended = λ _ _ _ l. omega (arith, n .reach);
     })
   where
     size-reach : (n′ m′ horizon : ℕ) → sized (q .tape) ≡ false → wrongSize n′ m′ horizon ≡ false →
@@ -108,7 +109,7 @@ bounds s = go (length s) opened (omega arith) small-opened near-opened
     told (Refused why) from r again h f = h
 
     go : (left : ℕ) (q : Reader) → length s ≤ q .at + left → SmallTape (q .tape) → Near q → Bounds (length s) (readFrom s left q .answer)
-    go zero q l small n = omega (arith, n .reach)
+    go zero q l small n = (inl (omega arith), omega (arith, n .reach))
     go (suc left) q l small n =
         let r = next s q in
         told (r .verdict) (q .at) r (readFrom s left r) (next-stays s q small n) (λ m k. go left r (omega arith) (small-next s q small) k)

@@ -2,6 +2,7 @@
 use Prim.Native.Nat.{ℕ, zero, suc, _+_, _-_, _<_, _≤_}
 use mathlib.Core.Path.{_≡_, refl}
 use mathlib.Core.Bool.{Bool, true, false, not}
+use mathlib.Core.Logic.{_⊎_, inl, inr}
 use mathlib.Core.List.{List, [], _∷_}
 use native.Mathlib.Omega.{arith}
 use native.Mathlib.Numerals.{sub-one}
@@ -24,11 +25,11 @@ use Rattle.tape.specs.declared.reader.Verdict.the-variants.{Going, Ended
 use Rattle.tape.specs.declared.refusal.Refusal.{Refusal}
 use Rattle.tape.specs.Refusals.{row, figure}
 use Rattle.tape.specs.Tape.{withSize, with}
-use Rattle.tape.specs.Reading.{refuse, refuseWhen, sized, absent, obeySize, obeyEntry, obeyEnd, obey, next, outcome, readFrom, opened}
+use Rattle.tape.specs.Reading.{refuse, refuseWhen, sized, absent, lacksWeight, obeySize, obeyEntry, obeyEnd, obey, next, outcome, readFrom, opened}
 
--- 1 to 8, with a figure that is at most so large
+-- 1 to 8 or 18, with a figure that is at most so large
 abbrev pub OfTape : ℕ → Refusal → Type 0
-OfTape most why = (row why .number ≤ 8) × (figure (row why .carries) ≤ most)
+OfTape most why = ((row why .number ≤ 8) ⊎ (row why .number ≡ 18)) × (figure (row why .carries) ≤ most)
 
 -- ---- What the next command leads to: to a reader of which P holds, if P holds where the command is refused and where it is obeyed
 
@@ -39,25 +40,28 @@ pub record Leads (P : Reader → Type 0) (s : List ℕ) (q : Reader) : Type 0 wh
   pub entry : (e : Entry) → decoded s (q .at) ≡ command.Give e →
       not (sized (q .tape)) ≡ false → beyond (q .tape .n) (q .tape .m) (q .tape .horizon) e ≡ false → wrong e ≡ false → marked (q .given) (placeOf e) ≡ false →
       P (record { at = q .at + bytesOf e; verdict = Going; tape = with (q .tape) e; given = set (q .given) (placeOf e) true })
-  pub ended : not (sized (q .tape)) ≡ false → absent (q .tape .n) (q .tape .m) (q .tape .horizon) (q .given) ≡ false → length s ≤ q .at + 1 →
+  pub ended : not (sized (q .tape)) ≡ false → absent (q .tape .n) (q .tape .m) (q .tape .horizon) (q .given) ≡ false → lacksWeight (q .tape) ≡ false →
+      length s ≤ q .at + 1 →
       P (record { at = q .at; verdict = Ended; tape = q .tape; given = q .given })
 
 module _ (P : Reader → Type 0) (s : List ℕ) (q : Reader) (k : Leads P s q) where
-  passed : (test : Bool) (why : Refusal) {r : Reader} → OfTape (q .at + 1) why → (test ≡ false → P r) → P (refuseWhen test why q r)
-  passed test why h f = by-test P test (λ _. k .refused why h) f
+  -- a test whose refusal is one of 1 to 8
+  passed : (test : Bool) (why : Refusal) {r : Reader} → (row why .number ≤ 8) × (figure (row why .carries) ≤ q .at + 1) → (test ≡ false → P r) → P (refuseWhen test why q r)
+  passed test why h f = by-test P test (λ _. k .refused why (inl (h .0), h .1)) f
 
   obeyed : (c : Command) → decoded s (q .at) ≡ c → P (obey c s q)
   unfolding obey obeySize obeyEntry obeyEnd
-  obeyed command.Unknown d = k .refused _ (omega arith)
-  obeyed command.Cut d = k .refused _ (omega arith)
+  obeyed command.Unknown d = k .refused _ (inl (omega arith), omega arith)
+  obeyed command.Cut d = k .refused _ (inl (omega arith), omega arith)
   obeyed (command.Size n m horizon) d = passed _ _ (omega arith) (λ u. passed _ _ (omega arith) (λ w. k .size n m horizon u w))
   obeyed (command.Give e) d =
       passed _ _ (omega arith) (λ u. passed _ _ (omega arith) (λ b. passed _ _ (omega arith) (λ w. passed (marked (q .given) (placeOf e)) _ (omega arith) (λ g. k .entry e d u b w g))))
-  obeyed command.End d = passed _ _ (omega arith) (λ u. passed _ _ (omega arith) (λ a. passed (ltb (q .at + 1) (length s)) _ (omega arith) (λ o. k .ended u a (ltb-false _ _ o))))
+  obeyed command.End d =
+      passed _ _ (omega arith) (λ u. passed _ _ (omega arith) (λ a. by-test P (lacksWeight (q .tape)) (λ _. k .refused _ (inr refl, omega arith)) (λ w. passed (ltb (q .at + 1) (length s)) _ (omega arith) (λ o. k .ended u a w (ltb-false _ _ o)))))
 
   pub next-leads : P (next s q)
   unfolding next
-  next-leads = by-test P (ltb (q .at) (length s)) (λ _. obeyed (decoded s (q .at)) refl) (λ h. k .refused _ (omega (arith, ltb-false (q .at) (length s) h)))
+  next-leads = by-test P (ltb (q .at) (length s)) (λ _. obeyed (decoded s (q .at)) refl) (λ h. k .refused _ (inl (omega arith), omega (arith, ltb-false (q .at) (length s) h)))
 
 -- ---- The sizes stay in range
 
@@ -81,7 +85,7 @@ same-sizes t (Drift i v) = (refl, refl, refl)
 same-sizes t (Column c lo hi r h) = (refl, refl, refl)
 same-sizes t (Reference c k r) = (refl, refl, refl)
 same-sizes t (Start i v) = (refl, refl, refl)
-same-sizes t (Rounds g rounds wanted) = (refl, refl, refl)
+same-sizes t (Rounds banded g rounds wanted) = (refl, refl, refl)
 
 small-with : (t : Tape) (e : Entry) → SmallTape t → SmallTape (with t e)
 small-with t e h = omega (arith, same-sizes t e)
@@ -89,7 +93,7 @@ small-with t e h = omega (arith, same-sizes t e)
 pub small-next : (s : List ℕ) (q : Reader) → SmallTape (q .tape) → SmallTape (next s q .tape)
 small-next s q h =
     next-leads (λ r. SmallTape (r .tape)) s q
-    (record { refused = λ _ _. h; size = λ n m horizon _ w. small-size (q .tape) n m horizon w; entry = λ e _ _ _ _ _. small-with (q .tape) e h; ended = λ _ _ _. h })
+    (record { refused = λ _ _. h; size = λ n m horizon _ w. small-size (q .tape) n m horizon w; entry = λ e _ _ _ _ _. small-with (q .tape) e h; ended = λ _ _ _ _. h })
 
 -- ---- Reading on
 

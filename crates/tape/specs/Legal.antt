@@ -1,6 +1,7 @@
 -- What every accepted tape has: document 01's ranges, and 0 beyond the sizes.
 use Prim.Native.Nat.{ℕ, _+_, _*_, _<_, _≤_}
 use mathlib.Core.Path.{_≡_}
+use mathlib.Core.Bool.{true}
 use mathlib.Core.Logic.{_⊎_}
 use lib.IntN.{pos}
 use Rattle.integer.specs.Order.{_≼_}
@@ -23,6 +24,7 @@ pub record Legal (t : Tape) : Type 0 where
   pub start : Bounded mostNumber (t .start)
   pub ordered : (column : ℕ) → at (t .low) column ≼ at (t .high) column
   pub weighed : (column : ℕ) → pos 0 ≼ at (t .weight) column
+  pub banded-weighed : t .banded ≡ true → (column : ℕ) → column < t .n + t .m → pos 1 ≼ at (t .weight) column
   pub gain : (pos 1 ≼ t .gain) × (t .gain ≼ pos mostGain)
   pub rounds : (1 ≤ t .rounds) × (t .rounds ≤ mostRounds)
   pub wanted : (pos 0 ≼ t .wanted) × (t .wanted ≼ pos mostWanted)

@@ -1,9 +1,12 @@
--- Reading a tape: commands from the front, the tests of each in the order 2, 1, 3, 4, 5, 6, and at FF 7, then 8.
+-- Reading a tape: commands from the front, the tests of each in the order 2, 1, 3, 4, 5, 6, and at FF 7, 18, then 8.
 use Prim.Native.Nat.{ℕ, zero, suc, _+_}
 use mathlib.Core.Bool.{Bool, true, false, not, cond, _&&_}
 use mathlib.Core.List.{List}
 use lib.Dec.{ltb}
 use lib.ListN.{length, set, replicate}
+use lib.IntN.{pos}
+use lib.Signed.{leZ}
+use Rattle.integer.specs.Places.{at}
 use Rattle.integer.specs.Tests.{any}
 use Rattle.commands.specs.declared.Command.{Command}
 use Rattle.commands.specs.declared.Command.the-variants as command
@@ -18,7 +21,7 @@ use Rattle.tape.specs.declared.reader.Reader.{Reader}
 use Rattle.tape.specs.declared.reader.Verdict.{Verdict}
 use Rattle.tape.specs.declared.reader.Verdict.the-variants.{Going, Ended, Refused}
 use Rattle.tape.specs.declared.refusal.Refusal.{Refusal}
-use Rattle.tape.specs.declared.refusal.Refusal.the-variants.{Cut, Unknown, Misplaced, NoSuchPlace, OutOfRange, Twice, Absent, Overrun}
+use Rattle.tape.specs.declared.refusal.Refusal.the-variants.{Cut, Unknown, Misplaced, NoSuchPlace, OutOfRange, Twice, Absent, Overrun, Weightless}
 use Rattle.tape.specs.Tape.{blank, withSize, with}
 
 abbrev pub refuse : Refusal → Reader → Reader
@@ -38,7 +41,7 @@ obeySize n m horizon q =
     (refuseWhen (wrongSize n m horizon) (OutOfRange (q .at)) q
     (record { at = q .at + sizeBytes; verdict = Going; tape = withSize (q .tape) n m horizon; given = q .given }))
 
--- 20 to 50: 3 where the first command was not 10, 4, 5, 6
+-- 20 to 51: 3 where the first command was not 10, 4, 5, 6
 unfoldable pub obeyEntry : Entry → Reader → Reader
 obeyEntry e q =
     refuseWhen (not (sized (q .tape))) (Misplaced (q .at)) q
@@ -51,13 +54,18 @@ obeyEntry e q =
 unfoldable pub absent : ℕ → ℕ → ℕ → List Bool → Bool
 absent n m horizon given = any placeCount (λ p. required n m horizon given p && not (marked given p))
 
--- FF: 3, 7, and 8 at the offset after FF
+-- command 51 stands on a tape with a weight of 0, which none is below (document 02, request 9)
+unfoldable pub lacksWeight : Tape → Bool
+lacksWeight t = t .banded && any (t .n + t .m) (λ column. leZ (at (t .weight) column) (pos 0))
+
+-- FF: 3, 7, 18, and 8 at the offset after FF
 unfoldable pub obeyEnd : List ℕ → Reader → Reader
 obeyEnd s q =
     refuseWhen (not (sized (q .tape))) (Misplaced (q .at)) q
     (refuseWhen (absent (q .tape .n) (q .tape .m) (q .tape .horizon) (q .given)) (Absent (q .at)) q
+    (refuseWhen (lacksWeight (q .tape)) (Weightless (q .at)) q
     (refuseWhen (ltb (q .at + 1) (length s)) (Overrun (q .at + 1)) q
-    (record { at = q .at; verdict = Ended; tape = q .tape; given = q .given })))
+    (record { at = q .at; verdict = Ended; tape = q .tape; given = q .given }))))
 
 unfoldable pub obey : Command → List ℕ → Reader → Reader
 obey command.Unknown s q = refuse (Unknown (q .at)) q

@@ -1,4 +1,4 @@
--- Document 01's table of refusals, with 16 and 17 of document 02, request 2, and what 10, 11 and 13 carry by request 6.
+-- Document 01's table of refusals, with 16 and 17 of document 02, request 2, 18 of request 9, and what 10, 11 and 13 carry by request 6.
 use Prim.Native.Nat.{ℕ}
 use Prim.Native.String.{String}
 use Rattle.tape.specs.declared.refusal.Carried.{Carried}
@@ -6,7 +6,7 @@ use Rattle.tape.specs.declared.refusal.Carried.the-variants.{Place, Noth
 use Rattle.tape.specs.declared.refusal.Refusal.{Refusal}
 use Rattle.tape.specs.declared.refusal.Refusal.the-variants.{Cut, Unknown, Misplaced, NoSuchPlace, OutOfRange, Twice, Absent, Overrun}
 use Rattle.tape.specs.declared.refusal.Refusal.the-variants.{Length, OffModel, OverLimit, Multiplier, Wide, NotShown, Open}
-use Rattle.tape.specs.declared.refusal.Refusal.the-variants.{ArgumentOutOfRange, NotFinite, TooLarge}
+use Rattle.tape.specs.declared.refusal.Refusal.the-variants.{ArgumentOutOfRange, NotFinite, TooLarge, Weightless}
 
 -- What a refusal carries, as one number: 0 where it carries nothing or several.
 abbrev pub figure : Carried → ℕ
@@ -45,3 +45,4 @@ row (Open R) = rowOf 15 "open" (Rounds R)
 row ArgumentOutOfRange = rowOf 5 "out of range" Nothing
 row (NotFinite count) = rowOf 16 "not finite" (Place count)
 row (TooLarge count) = rowOf 17 "too large" (Place count)
+row (Weightless at) = rowOf 18 "weightless" (Place at)

@@ -18,7 +18,8 @@ pub struct Curves {
 }
 
 // The numbers of a tape, 0 where none is given and beyond the sizes. A is row by row at a stride of
-// 6, B at a stride of 4. Columns are the n states, then the m inputs.
+// 6, B at a stride of 4. Columns are the n states, then the m inputs. Command 51 gives
+// the last three where `banded`, else command 50.
 pub struct Tape {
     pub n: usize,
     pub m: usize,
@@ -32,6 +33,7 @@ pub struct Tape {
     pub weight: [i64; 10],
     pub curves: Curves,
     pub start: [i64; 6],
+    pub banded: bool,
     pub gain: i64,
     pub rounds: usize,
     pub wanted: i64,
@@ -75,6 +77,7 @@ pub fn blank_tape() -> Tape
         weight: ten,
         curves: curves,
         start: six,
+        banded: false,
         gain: 0,
         rounds: 0,
         wanted: 0,

@@ -6,7 +6,7 @@ ghost use lib.ListN.{length};
 ghost use Rattle.commands.specs.Format.{sizeBytes, bytesOf, beyond};
 ghost use Rattle.commands.specs.Room.{Room, SmallSizes};
 ghost use Rattle.tape.specs.Tape.{withReference, with};
-ghost use Rattle.tape.specs.Reading.{refuse, obeySize, obeyEntry, absent, obeyEnd, obey, next, opened, reading};
+ghost use Rattle.tape.specs.Reading.{refuse, obeySize, obeyEntry, absent, lacksWeight, obeyEnd, obey, next, opened, reading};
 use crate::Answer;
 use crate::Curves;
 use crate::Reading;
@@ -99,7 +99,8 @@ fn stored(tape: Tape, entry: Entry) -> Tape
             t.start[i] = v;
             t
         }
-        Entry::Rounds(gain, rounds, wanted) => {
+        Entry::Rounds(banded, gain, rounds, wanted) => {
+            t.banded = banded;
             t.gain = gain;
             t.rounds = rounds;
             t.wanted = wanted;
@@ -172,6 +173,25 @@ fn is_absent(given: &[bool; PLACE_COUNT], n: usize, m: usize, horizon: usize) ->
     0 < count_missing(n, m, horizon, given)
 }
 
+// Whether command 51 stands and a column has weight 0.
+fn lacks_weight(t: Tape) -> bool
+    requires { ⌜ SmallSizes (t .n) (t .m) (t .horizon) ⌝ }
+    ensures { λ r. ⌜ r ≡ lacksWeight t ⌝ }
+{
+    if !t.banded {
+        return false;
+    }
+    let columns = t.n + t.m;
+    let mut column: usize = 0;
+    while column < columns {
+        if t.weight[column] <= 0 {
+            return true;
+        }
+        column += 1;
+    }
+    false
+}
+
 fn obey_end(s: &[u8], q: Reader) -> Reader
     requires { ⌜ SmallSizes (q .tape .n) (q .tape .m) (q .tape .horizon) × (q .at < length (now s)) ⌝ }
     ensures { λ r. ⌜ r ≡ obeyEnd (now (s .entry)) q ⌝ }
@@ -186,6 +206,9 @@ fn obey_end(s: &[u8], q: Reader) -> Reader
     }
     if is_absent(&given, n, m, horizon) {
         return refused(q, Refusal::Absent(at));
+    }
+    if lacks_weight(q.tape) {
+        return refused(q, Refusal::Weightless(at));
     }
     if at + 1 < s.len() {
         return refused(q, Refusal::Overrun(at + 1));

@@ -1,5 +1,5 @@
-// Refusals, in the order of document 01's table; then those of calls that take no tape, an import's
-// (document 02, request 2).
+// Refusals, in the order of document 01's table; then document 02's: of calls that take no tape, 16 and
+// 17 of request 2; of a tape, 18 of request 9.
 ghost use mathlib.Core.Path.{_≡_};
 ghost use Rattle.tape.specs.Refusals.{row, figure};
 
@@ -37,6 +37,7 @@ pub enum Refusal {
     ArgumentOutOfRange,
     NotFinite(usize),
     TooLarge(usize),
+    Weightless(usize),
 }
 
 pub fn number(refusal: Refusal) -> usize
@@ -61,6 +62,7 @@ pub fn number(refusal: Refusal) -> usize
         Refusal::ArgumentOutOfRange => 5,
         Refusal::NotFinite(_) => 16,
         Refusal::TooLarge(_) => 17,
+        Refusal::Weightless(_) => 18,
     }
 }
 
@@ -96,6 +98,7 @@ pub fn carries(refusal: Refusal) -> Carried
         Refusal::ArgumentOutOfRange => Carried::Nothing,
         Refusal::NotFinite(count) => Carried::Place(count),
         Refusal::TooLarge(count) => Carried::Place(count),
+        Refusal::Weightless(at) => Carried::Place(at),
     }
 }
 

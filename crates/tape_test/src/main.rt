@@ -40,7 +40,7 @@ fn run(begun: Case, text: &[u8]) -> Case {
 fn show(case: Case) {
     let kind = case.kind;
     let tape = case.tape;
-    if kind == b'r' || kind == b'p' {
+    if kind == b'r' || kind == b'p' || kind == b'b' {
         show_reading(kind, &tape, case.digits / 2);
     }
 }
@@ -61,6 +61,7 @@ fn show_reading(kind: u8, tape: &[u8], bytes: usize) {
 fn show_numbers(kind: u8, t: Tape) {
     match kind {
         b'p' => show_curves(t),
+        b'b' => show_step(t.banded),
         _ => show_tape(t),
     }
 }
@@ -75,13 +76,22 @@ fn show_curves(t: Tape) {
 fn marks(list: &[bool]) {
     let mut i: usize = 0;
     while i < list.len() {
-        if list[i] {
-            print::unsigned(1);
-        } else {
-            print::unsigned(0);
-        }
+        mark(list[i]);
         i += 1;
     }
+}
+
+fn mark(given: bool) {
+    if given {
+        print::unsigned(1);
+    } else {
+        print::unsigned(0);
+    }
+}
+
+fn show_step(banded: bool) {
+    print::word(b"step");
+    mark(banded);
 }
 
 fn show_tape(t: Tape) {

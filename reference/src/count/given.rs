@@ -4,7 +4,7 @@ use super::{answers, Counts};
 use crate::calls::read;
 use crate::generate::{given, GivenTape};
 use crate::marks::{Place, Sizes};
-use crate::model::Furnace;
+use crate::model::{Correction, Furnace};
 use crate::refusal::Refusal;
 use crate::shapes;
 
@@ -45,8 +45,11 @@ const PLACES: [&str; 7] = [
     "last step",
 ];
 
-/// Counted with the shapes: accepted tapes with weights of 0.
-const WEIGHTS_0: [shapes::Shape; 2] = [
+/// Counted with the shapes: accepted tapes with a command 51 or with weights of 0.
+const ACCEPTED: [shapes::Shape; 3] = [
+    ("accepted with a 51", |furnace| {
+        furnace.correction == Correction::Banded
+    }),
     ("accepted, some weight 0", shapes::some_weight_0),
     ("accepted, all weights 0", shapes::all_weights_0),
 ];
@@ -103,7 +106,7 @@ impl Counts {
         self.expect(MISSING, GROUPS.map(|(_, name)| name.to_string()));
         self.expect(ALONE, PLACES.map(str::to_string));
         let names = SHAPES.map(|(name, _)| name);
-        let names = names.into_iter().chain(WEIGHTS_0.map(|(name, _)| name));
+        let names = names.into_iter().chain(ACCEPTED.map(|(name, _)| name));
         self.expect(RARE, names.map(str::to_string));
     }
 
@@ -122,7 +125,7 @@ impl Counts {
                 self.add(RARE, name);
             }
         }
-        for (name, has) in WEIGHTS_0 {
+        for (name, has) in ACCEPTED {
             if answer.as_ref().is_ok_and(has) {
                 self.add(RARE, name);
             }

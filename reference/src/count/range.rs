@@ -1,6 +1,6 @@
 //! Counts of ranges: of plans that are judged, of slips, and of duties without a tape.
 
-use super::{answers, up_to, Counts};
+use super::{tape_answers, up_to, Counts};
 use crate::calls::{lent_multipliers, Solved};
 use crate::floor::Piece;
 use crate::generate::furnaces::MOST_GAP;
@@ -142,8 +142,8 @@ fn ends(duty: &Duty, range: Range) -> &'static str {
 impl Counts {
     /// Adds the headings and names of ranges.
     pub fn expect_ranges(&mut self) {
-        let refusals: Vec<u32> = (1..=13).collect();
-        self.expect(JUDGED, answers(&["accepted"], &refusals));
+        let refusals = [9, 10, 11, 12, 13];
+        self.expect(JUDGED, tape_answers(&["accepted"], &refusals));
         for heading in [JUDGED, SLIP] {
             self.expect(&format!("{heading}, m"), up_to(MOST_INPUTS));
             self.expect_duties(heading);

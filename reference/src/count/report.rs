@@ -1,6 +1,6 @@
 //! Counts of what is reported on judged plans.
 
-use super::{answers, Counts};
+use super::{tape_answers, Counts};
 use crate::calls::lent_plan;
 use crate::faults::faults;
 use crate::model::{Furnace, Whole};
@@ -52,7 +52,7 @@ const GAP_NAMES: [&str; 4] = [
 impl Counts {
     /// Adds the headings and names of reports.
     pub fn expect_reports(&mut self) {
-        self.expect(REPORTS, answers(&NAMES, &[1, 2, 3, 4, 5, 6, 7, 8, 9, 12]));
+        self.expect(REPORTS, tape_answers(&NAMES, &[9, 12]));
         let kinds = [OFF_MODEL, INPUT, STATE];
         let sides = |kind: &str| ["below", "above"].map(|side| format!("{kind} {side}"));
         let first = kinds.into_iter().flat_map(sides);

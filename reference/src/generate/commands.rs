@@ -1,9 +1,10 @@
 //! A furnace written as tape commands.
 
 use super::random::Random;
-use crate::model::{Column, Furnace, Whole};
+use crate::model::{Column, Correction, Furnace, Whole};
 use crate::tape::{
-    COLUMN, DRIFT, END, INPUT_ENTRY, SEARCH, SIZE, START, STATE_ENTRY, STEP_REFERENCE,
+    BANDED_SEARCH, COLUMN, DRIFT, END, INPUT_ENTRY, SEARCH, SIZE, START, STATE_ENTRY,
+    STEP_REFERENCE,
 };
 
 /// One command: its byte and its operands.
@@ -62,8 +63,26 @@ pub fn start(i: usize, value: Whole) -> Command {
 
 /// Command 50.
 pub fn search(step_size: Whole, rounds: Whole, wanted_gap: Whole) -> Command {
+    search_with(Correction::Gain, step_size, rounds, wanted_gap)
+}
+
+/// The byte of the command, 50 or 51, that asks for a correction.
+pub fn search_byte(correction: Correction) -> u8 {
+    match correction {
+        Correction::Gain => SEARCH,
+        Correction::Banded => BANDED_SEARCH,
+    }
+}
+
+/// Command 50 or 51.
+pub fn search_with(
+    correction: Correction,
+    step_size: Whole,
+    rounds: Whole,
+    wanted_gap: Whole,
+) -> Command {
     [
-        vec![SEARCH],
+        vec![search_byte(correction)],
         operand(step_size, 2),
         operand(rounds, 2),
         operand(wanted_gap, 4),
@@ -102,7 +121,13 @@ pub fn of_furnace(furnace: &Furnace, random: &mut Random) -> Vec<Command> {
         middle.push(start(i, *value));
     }
     let rounds = Whole::from(furnace.rounds);
-    middle.push(search(furnace.step_size, rounds, furnace.wanted_gap));
+    let (step_size, wanted_gap) = (furnace.step_size, furnace.wanted_gap);
+    middle.push(search_with(
+        furnace.correction,
+        step_size,
+        rounds,
+        wanted_gap,
+    ));
     random.shuffle(&mut middle);
     let mut commands = vec![size(furnace.states, furnace.inputs, furnace.horizon)];
     commands.append(&mut middle);

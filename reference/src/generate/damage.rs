@@ -3,11 +3,12 @@
 use super::commands::{operand, step_reference, Command};
 use super::random::Random;
 use crate::tape::{
-    operand_bytes, COLUMN, DRIFT, INPUT_ENTRY, SEARCH, SIZE, START, STATE_ENTRY, STEP_REFERENCE,
+    operand_bytes, BANDED_SEARCH, COLUMN, DRIFT, INPUT_ENTRY, SEARCH, SIZE, START, STATE_ENTRY,
+    STEP_REFERENCE,
 };
 
 /// All command bytes but FF.
-const COMMANDS: [u8; 8] = [
+const COMMANDS: [u8; 9] = [
     SIZE,
     STATE_ENTRY,
     INPUT_ENTRY,
@@ -16,6 +17,7 @@ const COMMANDS: [u8; 8] = [
     STEP_REFERENCE,
     START,
     SEARCH,
+    BANDED_SEARCH,
 ];
 
 /// The tape of the commands with one or two damages.
@@ -43,7 +45,7 @@ pub fn damaged(mut commands: Vec<Command>, random: &mut Random) -> Vec<u8> {
 fn damage_commands(commands: &mut Vec<Command>, random: &mut Random) {
     let some = random.below(commands.len());
     let before_end = random.below(commands.len());
-    match random.below(11) {
+    match random.below(14) {
         0 => commands.insert(before_end, commands[some].clone()),
         1 => {
             // The same place with another value, or another place.
@@ -62,11 +64,12 @@ fn damage_commands(commands: &mut Vec<Command>, random: &mut Random) {
             }
         }
         4 => {
-            let unknown = random.choose(&[0x00, 0x11, 0x23, 0x32, 0x51, 0xfe, 0x80]);
+            let unknown = random.choose(&[0x00, 0x11, 0x23, 0x32, 0x52, 0xfe, 0x80]);
             commands.insert(before_end, vec![unknown]);
         }
         5 => flip_bit(&mut commands[some], random),
         6..=8 => damage_steps(commands, random),
+        9..=11 => damage_search(commands, random),
         _ => {
             // Several in one command, so that two refusals meet in it.
             for _ in 0..random.choose(&[1, 1, 4]) {
@@ -111,6 +114,53 @@ fn damage_steps(commands: &mut Vec<Command>, random: &mut Random) {
         }
         _ => extreme_operand(&mut commands[some], random),
     }
+}
+
+/// One damage to the command 50 or 51, or to the weights that a 51 asks for.
+fn damage_search(commands: &mut Vec<Command>, random: &mut Random) {
+    let before_end = random.below(commands.len());
+    let Some(place) = any_of(commands, &[SEARCH, BANDED_SEARCH], random) else {
+        return;
+    };
+    match random.below(5) {
+        // Either after either.
+        0 | 1 => {
+            let mut copy = commands[place].clone();
+            copy[0] = random.choose(&[SEARCH, BANDED_SEARCH]);
+            commands.insert(before_end, copy);
+        }
+        // Neither.
+        2 => {
+            commands.remove(place);
+        }
+        // A weight of 0 with a 51: alone, with a byte behind FF, or with a required place missing.
+        _ => {
+            commands[place][0] = BANDED_SEARCH;
+            if let Some(column) = any_of(commands, &[COLUMN], random) {
+                commands[column][8] = 0;
+            }
+            match random.below(3) {
+                0 => (),
+                1 => commands.push(vec![random.byte()]),
+                _ => {
+                    if let Some(required) = any_of(commands, &[START, COLUMN], random) {
+                        commands.remove(required);
+                    }
+                }
+            }
+        }
+    }
+}
+
+/// The place of one of the whole commands with one of these bytes, if there is any.
+fn any_of(commands: &[Command], bytes: &[u8], random: &mut Random) -> Option<usize> {
+    let is_whole = |command: &Command| operand_bytes(command[0]) == Some(command.len() - 1);
+    let is_one = |place: &usize| {
+        let command = &commands[*place];
+        bytes.contains(&command[0]) && is_whole(command)
+    };
+    let places: Vec<usize> = (0..commands.len()).filter(is_one).collect();
+    (!places.is_empty()).then(|| random.choose(&places))
 }
 
 /// Inverts one bit.
@@ -164,7 +214,7 @@ fn extreme_operand(command: &mut Command, random: &mut Random) {
             };
             (random.choose(places), operand(value, 2))
         }
-        SEARCH => match random.below(4) {
+        SEARCH | BANDED_SEARCH => match random.below(4) {
             0 => (1, operand(random.choose(&[0, 1, 65_535]), 2)),
             1 | 2 => (
                 3,

@@ -1,11 +1,12 @@
 //! Furnaces whose tapes are accepted: of all value ranges, at the limits of all numbers, and
 //! tuned so that the rounds end with 'proved' or 'impossible' after a chosen number of rounds.
 
+use super::banded;
 use super::curves;
 use super::random::Random;
 use super::weights::{bind_states, Zeros};
 use crate::floor::Multipliers;
-use crate::model::{floor_div, Column, Furnace, Plan, Whole, UNIT};
+use crate::model::{floor_div, Column, Correction, Furnace, Plan, Whole, UNIT};
 use crate::rounds::{run, Candidate, Outcome, Round};
 use crate::tape::{
     DRIFT_RANGE, ENTRY_RANGE, MOST_INPUTS, MOST_ROUNDS, MOST_STATES, MOST_STEPS, MOST_WEIGHT,
@@ -23,7 +24,7 @@ pub(super) fn blank(random: &mut Random) -> Furnace {
     sized(states, inputs, horizon)
 }
 
-/// A furnace of the given sizes. Its weights, g and R are 1, all other numbers 0.
+/// A furnace of the given sizes for command 50. Its weights, g and R are 1, all other numbers 0.
 pub fn sized(states: usize, inputs: usize, horizon: usize) -> Furnace {
     let column = Column {
         lo: 0,
@@ -41,6 +42,7 @@ pub fn sized(states: usize, inputs: usize, horizon: usize) -> Furnace {
         columns: vec![column; states + inputs],
         curves: vec![None; states + inputs],
         start: vec![0; states],
+        correction: Correction::Gain,
         step_size: 1,
         rounds: 1,
         wanted_gap: 0,
@@ -48,7 +50,11 @@ pub fn sized(states: usize, inputs: usize, horizon: usize) -> Furnace {
 }
 
 /// Sets every number of a furnace: `number` gives one within plus and minus the range.
-fn fill(furnace: &mut Furnace, random: &mut Random, number: fn(&mut Random, Whole) -> Whole) {
+pub(super) fn fill(
+    furnace: &mut Furnace,
+    random: &mut Random,
+    number: fn(&mut Random, Whole) -> Whole,
+) {
     for i in 0..furnace.states {
         for j in 0..furnace.states {
             furnace.a[i][j] = number(random, ENTRY_RANGE);
@@ -296,13 +302,14 @@ pub fn proved(random: &mut Random) -> Furnace {
     tuned_to_prove(random, near_rest)
 }
 
-/// A furnace of `make` whose rounds mostly end with 'proved'. Some have weights of 0.
+/// A furnace of `make` whose rounds mostly end with 'proved'. Some have weights of 0, some a command 51.
 pub(super) fn tuned_to_prove(
     random: &mut Random,
     make: impl Fn(&mut Random) -> Furnace,
 ) -> Furnace {
     // Drawn once: what is harder to prove keeps its share.
     let (zeros, binds) = (Zeros::any(random), !random.one_in(3));
+    let is_banded = banded::drawn(random);
     let target = random.choose(&[2, 3, 5, 10, 20, 50, 100, 200, 300, 400]);
     let make = |random: &mut Random| {
         let mut furnace = make(random);
@@ -310,6 +317,7 @@ pub(super) fn tuned_to_prove(
         if binds {
             bind_states(&mut furnace, random);
         }
+        banded::put(&mut furnace, is_banded);
         furnace
     };
     let mut furnace = make(random);
@@ -412,13 +420,14 @@ pub fn impossible(random: &mut Random) -> Furnace {
 }
 
 /// A furnace of `make`, which is told how far out of reach it should be, whose rounds mostly end
-/// with 'impossible'. Some have weights of 0.
+/// with 'impossible'. Some have weights of 0, some a command 51.
 pub(super) fn tuned_to_fail(
     random: &mut Random,
     make: impl Fn(&mut Random, Whole) -> Furnace,
 ) -> Furnace {
     // Drawn once: what is harder to show keeps its share.
     let zeros = Zeros::any(random);
+    let is_banded = banded::drawn(random);
     let most = random.choose(&[5, 20, 60, 150, 300]);
     let mut attempt = 0;
     loop {
@@ -426,6 +435,7 @@ pub(super) fn tuned_to_fail(
         let margin = random.choose(&[1, 4, 20, 100, 300]) << attempt;
         let mut furnace = make(random, margin);
         zeros.put(&mut furnace, random);
+        banded::put(&mut furnace, is_banded);
         let (numerator, denominator) =
             random.choose(&[(8, 1), (4, 1), (1, 1), (1, 4), (1, 16), (1, 64)]);
         furnace.step_size = tuned_step_size(&furnace, numerator << attempt, denominator);
@@ -443,11 +453,12 @@ pub(super) fn tuned_to_fail(
     }
 }
 
-/// Lowers g so that 'impossible' comes after `rounds` or more rounds, but at most `most`.
-/// Returns the rounds that it takes.
+/// Lowers g so that 'impossible' comes after `rounds` or more rounds, but at most `most`. With a
+/// command 51 that would change nothing. Returns the rounds that it takes.
 fn delay(furnace: &mut Furnace, random: &mut Random, rounds: u32, most: u32) -> u32 {
     let mut rounds = rounds;
-    while rounds < most / 3 && furnace.step_size > 1 && !random.one_in(4) {
+    let is_banded = furnace.correction == Correction::Banded;
+    while !is_banded && rounds < most / 3 && furnace.step_size > 1 && !random.one_in(4) {
         let mut slower = furnace.clone();
         slower.step_size = (furnace.step_size / 4).max(1);
         match trial(&slower, most).impossible {

@@ -6,7 +6,7 @@ use super::furnaces::MOST_GAP;
 use super::random::Random;
 use super::weights::zeros_one_in;
 use crate::marks::{missing, Marks, Place, Sizes};
-use crate::model::{Column, Whole};
+use crate::model::{Column, Correction, Whole};
 use crate::tape::{
     DRIFT_RANGE, END, ENTRY_RANGE, MOST_INPUTS, MOST_STATES, MOST_STEPS, MOST_WEIGHT, NUMBER_RANGE,
 };
@@ -25,9 +25,12 @@ pub struct GivenTape {
 impl GivenTape {
     /// A tape that gives these places.
     pub fn of(sizes: Sizes, marks: Marks, random: &mut Random) -> GivenTape {
-        let zeros_one_in = zeros_one_in(random);
+        let correction = random.choose(&[Correction::Gain, Correction::Gain, Correction::Banded]);
+        // With a 51 and nothing missing a weight of 0 would be refused.
+        let refuses_0 = correction == Correction::Banded && missing(sizes, &marks).is_empty();
+        let zeros_one_in = zeros_one_in(random).filter(|_| !refuses_0);
         let places = marks.iter();
-        let given = places.map(|place| command(*place, zeros_one_in, random));
+        let given = places.map(|place| command(*place, correction, zeros_one_in, random));
         let mut middle: Vec<Command> = given.collect();
         middle.extend(some_entries(sizes, random));
         random.shuffle(&mut middle);
@@ -113,13 +116,19 @@ fn all_but_steps(sizes: Sizes) -> Vec<Place> {
     places
 }
 
-/// The command that gives a place, with any legal numbers, and weight 0 in one column in so many. R
-/// is small, so that a solve is short.
-fn command(place: Place, zeros_one_in: usize, random: &mut Random) -> Command {
+/// The command that gives a place, with any legal numbers, and weight 0 in one column in so many, if
+/// any. R is small, so that a solve is short.
+fn command(
+    place: Place,
+    correction: Correction,
+    zeros_one_in: Option<usize>,
+    random: &mut Random,
+) -> Command {
     match place {
         Place::Column(c) => commands::column(c, &column(zeros_one_in, random)),
         Place::Start(i) => commands::start(i, within(NUMBER_RANGE, random)),
-        Place::Search => commands::search(
+        Place::Search => commands::search_with(
+            correction,
             random.between(1, 65_535),
             random.between(1, 3),
             random.between(0, MOST_GAP),
@@ -128,10 +137,10 @@ fn command(place: Place, zeros_one_in: usize, random: &mut Random) -> Command {
     }
 }
 
-/// A column with any legal numbers, its weight being 0 once in so many times.
-fn column(zeros_one_in: usize, random: &mut Random) -> Column {
+/// A column with any legal numbers, its weight being 0 once in so many times, if ever.
+fn column(zeros_one_in: Option<usize>, random: &mut Random) -> Column {
     let (one, other) = (within(NUMBER_RANGE, random), within(NUMBER_RANGE, random));
-    let is_zero = random.one_in(zeros_one_in);
+    let is_zero = zeros_one_in.is_some_and(|count| random.one_in(count));
     Column {
         lo: one.min(other),
         hi: one.max(other),

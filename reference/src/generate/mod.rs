@@ -1,11 +1,13 @@
-//! Tapes, plans, multipliers, entries, models and duties made from a seed, the same for the same seed
-//! on every machine.
+//! Tapes, plans, multipliers, entries, models, duties and residuals made from a seed, the same for the
+//! same seed on every machine.
 //!
 //! [`tape`] gives a tape; [`case`] gives the same tape with slices to lend to the calls.
 //! [`given()`] gives a tape that lacks required places or does not. [`entries()`] and [`models()`]
-//! give what is to be imported, [`duties()`] columns with slopes and gaps. [`records`] has furnaces
+//! give what is to be imported, [`duties()`] columns with slopes and gaps, [`lendings()`] tapes with
+//! residuals for the banded step, [`next_steps()`] multipliers with floats to add. [`records`] has furnaces
 //! whose records have present numbers that look absent.
 
+pub mod banded;
 mod ceilings;
 pub mod commands;
 pub mod curves;
@@ -23,6 +25,7 @@ pub mod rare;
 pub mod records;
 mod weights;
 
+pub use banded::{Lending, NextStep};
 pub use duties::Duty;
 pub use entries::{EntryKind, GeneratedEntry};
 pub use given::GivenTape;
@@ -148,6 +151,26 @@ pub fn duties(seed: u64) -> Vec<Duty> {
     (0..DUTIES).map(|_| duties::any(&mut random)).collect()
 }
 
+/// The tapes and residuals of a seed for the banded step.
+pub fn lendings(seed: u64) -> Vec<Lending> {
+    let mut random = Random::new(seed);
+    (0..LENDINGS).map(|_| banded::any(&mut random)).collect()
+}
+
+/// How many tapes with residuals a seed has.
+pub const LENDINGS: usize = 1;
+
+/// The multipliers and floats of a seed.
+pub fn next_steps(seed: u64) -> Vec<NextStep> {
+    let mut random = Random::new(seed);
+    (0..NEXT_STEPS)
+        .map(|_| NextStep::any(&mut random))
+        .collect()
+}
+
+/// How many multipliers with floats a seed has.
+pub const NEXT_STEPS: usize = 10;
+
 /// The kind of a seed's tape, which is not made for it.
 pub fn kind(seed: u64) -> Kind {
     kind_from(&mut Random::new(seed))
@@ -191,23 +214,30 @@ fn tape_from(random: &mut Random) -> GeneratedTape {
     GeneratedTape { kind, bytes }
 }
 
-/// A furnace of all value ranges, some with curves, some with weights of 0.
+/// A furnace of all value ranges, some with curves, some with weights of 0, some with a command 51. One
+/// in 20 is strongly coupled.
 fn plain(random: &mut Random) -> Furnace {
+    if random.one_in(20) {
+        return banded::strong(random);
+    }
     let mut furnace = furnaces::plain(random);
     if curves::drawn(random) {
         curves::put_any(&mut furnace, random, furnaces::any_size);
     }
     Zeros::any(random).put(&mut furnace, random);
+    banded::put(&mut furnace, banded::drawn(random));
     furnace
 }
 
-/// A furnace with every number at a limit of its range, some with curves, some with weights of 0.
+/// A furnace with every number at a limit of its range, some with curves, some with weights of 0, some
+/// with a command 51.
 fn limits(random: &mut Random) -> Furnace {
     let mut furnace = furnaces::limits(random);
     if curves::drawn(random) {
         curves::put_any(&mut furnace, random, furnaces::at_end);
     }
     Zeros::any(random).put(&mut furnace, random);
+    banded::put(&mut furnace, banded::drawn(random));
     furnace
 }
 

@@ -169,13 +169,9 @@ fn bind(column: &mut Column, first: (Whole, Whole), other: (Whole, Whole), rando
 }
 
 /// For tapes whose columns are drawn one by one: one column in so many has weight 0. That is all or
-/// some of them for a third of the tapes, and hardly any for the others.
-pub(super) fn zeros_one_in(random: &mut Random) -> usize {
-    if random.one_in(3) {
-        random.choose(&[1, 2, 4])
-    } else {
-        1000
-    }
+/// some of them for a third of the tapes, and none for the others.
+pub(super) fn zeros_one_in(random: &mut Random) -> Option<usize> {
+    random.one_in(3).then(|| random.choose(&[1, 2, 4]))
 }
 
 #[cfg(test)]

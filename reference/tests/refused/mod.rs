@@ -18,6 +18,11 @@ pub fn refused(tape: &[u8], number: u32, offset: usize) {
     let solved = solve(tape, &mut plan, &mut multipliers);
     assert_eq!(solved, Err(refusal));
     assert_eq!((plan, multipliers), ([1, 2, 3], [4]));
+    assert_eq!(read_step(tape), Err(refusal));
+    let (mut pivots, mut correction) = ([1.0], [2.0, 3.0]);
+    let corrected = banded_correction(tape, &[i64::MAX], &mut pivots, &mut correction);
+    assert_eq!(corrected, Err(refusal));
+    assert_eq!((pivots, correction), ([1.0], [2.0, 3.0]));
     assert_eq!(slip(tape), format!("refused {number} at {offset}\n"));
 }
 

@@ -5,7 +5,7 @@
 use std::ops::RangeInclusive;
 
 use reference::generate::Random;
-use reference::model::Column;
+use reference::model::{Column, Correction};
 use reference::{Furnace, Whole};
 
 /// A furnace of one state and one input with narrow limits and one or two steps.
@@ -47,6 +47,7 @@ pub fn tiny_of(horizon: usize, random: &mut Random) -> Furnace {
         columns: vec![state, input],
         curves: vec![curve(horizon, random), curve(horizon, random)],
         start: vec![start],
+        correction: Correction::Gain,
         step_size: (131_072 / size * random.between(1, 8) / 4).clamp(1, 65_535),
         rounds: random.between(1, 60) as u32,
         wanted_gap: random.between(0, 3_000_000),

@@ -31,6 +31,9 @@ start-requires c κs = search needs
 rounds-requires : tie.Need-rounds-requires
 rounds-requires c κs = search needs
 
+rounds-requires-2 : tie.Need-rounds-requires-2
+rounds-requires-2 c κs = search needs
+
 returns : tie.Need-returns
 unfolding decoded
 returns c = (rw (c .before .match .keys1) (c .size .ensures .0), c .size .ensures .1)
@@ -65,22 +68,29 @@ returns-8 c = (rw (c .before .match .keys8) (c .rounds .ensures .0), c .rounds .
 
 returns-9 : tie.Need-returns-9
 unfolding decoded
-returns-9 c = (rw (c .match .keys9), c .before .before .before .pre)
+returns-9 c = (rw (c .before .match .keys9) (c .rounds2 .ensures .0), c .rounds2 .ensures .1)
 
 returns-10 : tie.Need-returns-10
 unfolding decoded
-returns-10 c =
+returns-10 c = (rw (c .match .keys10), c .before .before .before .pre)
+
+returns-11 : tie.Need-returns-11
+unfolding decoded
+returns-11 c =
     let r = c .match .rest in
-    let no-size = ne-eqb _ _ (r .0 .0 .0 .0 .0 .0 .0 .0 .1) in
-    let no-state = ne-eqb _ _ (r .0 .0 .0 .0 .0 .0 .0 .1) in
-    let no-input = ne-eqb _ _ (r .0 .0 .0 .0 .0 .0 .1) in
-    let no-drift = ne-eqb _ _ (r .0 .0 .0 .0 .0 .1) in
-    let no-column = ne-eqb _ _ (r .0 .0 .0 .0 .1) in
-    let no-reference = ne-eqb _ _ (r .0 .0 .0 .1) in
-    let no-start = ne-eqb _ _ (r .0 .0 .1) in
-    let no-rounds = ne-eqb _ _ (r .0 .1) in
-    let no-end = ne-eqb _ _ (r .1) in
-    (simp (no-size, no-state, no-input, no-drift, no-column, no-reference, no-start, no-rounds, no-end), c .before .before .before .pre)
+    let no-size = ne-eqb _ _ (r .0 .0 .0 .0 .0 .0 .0 .0 .0 .1) in
+    let no-state = ne-eqb _ _ (r .0 .0 .0 .0 .0 .0 .0 .0 .1) in
+    let no-input = ne-eqb _ _ (r .0 .0 .0 .0 .0 .0 .0 .1) in
+    let no-drift = ne-eqb _ _ (r .0 .0 .0 .0 .0 .0 .1) in
+    let no-column = ne-eqb _ _ (r .0 .0 .0 .0 .0 .1) in
+    let no-reference = ne-eqb _ _ (r .0 .0 .0 .0 .1) in
+    let no-start = ne-eqb _ _ (r .0 .0 .0 .1) in
+    let no-rounds = ne-eqb _ _ (r .0 .0 .1) in
+    let no-banded = ne-eqb _ _ (r .0 .1) in
+    let no-end = ne-eqb _ _ (r .1) in (
+      simp (no-size, no-state, no-input, no-drift, no-column, no-reference, no-start, no-rounds, no-banded, no-end),
+      c .before .before .before .pre,
+    )
 
 pub decode-spec : {M : Type 1} → statement M
 decode-spec =
@@ -95,6 +105,7 @@ decode-spec =
     reference-requires
     start-requires
     rounds-requires
+    rounds-requires-2
     returns
     returns-2
     returns-3
@@ -104,4 +115,5 @@ decode-spec =
     returns-7
     returns-8
     returns-9
-    returns-10)
+    returns-10
+    returns-11)

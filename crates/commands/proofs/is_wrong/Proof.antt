@@ -95,9 +95,9 @@ returns-6 c =
     rw (e .1, ← called (e .0 .1 .0) (c .before .known-told6 .given .1 .0 .1)) (c .is-outside5 .ensures)
 
 -- the tests but the last
-tests : (c : tie.Joined1) → let e = c .before .before .entry7 .given in c .if1 .if2 ≡ ltZ (e .0 .0) (pos 1) || ltb (e .0 .1 .0) 1
+tests : (c : tie.Joined1) → let e = c .before .before .entry7 .given in c .if1 .if2 ≡ ltZ (e .0 .1 .0) (pos 1) || ltb (e .0 .1 .1 .0) 1
 tests c =
-    let z = called (c .before .before .entry7 .given .0 .0) (c .before .known-told7 .given .0 .1) in
+    let z = called (c .before .before .entry7 .given .0 .1 .0) (c .before .known-told7 .given .1 .0 .1) in
     or-met (ap (λ (v : ℤ). ltZ v (pos 1)) z) (c .if1 .came) (λ w. (w .0 .taken, w .1)) (λ w. (w .0 .left, w .1))
 
 returns-7 : tie.Need-returns-7

@@ -12,9 +12,10 @@ use mir.Val.{toZ, ofZ}
 use Rattle.integer.proofs.Sizes.{called}
 use Rattle.float.specs.Value.{finite}
 use Rattle.float.proofs.Signs.{passed}
+use Rattle.float.proofs.Finite.{finite-of, not-finite}
 use Rattle.float.proofs.Whole.{whole-fits}
 use Rattle.import.specs.Entries.{number}
-use Rattle.import.proofs.Bounds.{finite-of, not-finite, too-high, too-low, within}
+use Rattle.import.proofs.Bounds.{too-high, too-low, within}
 use Rattle.import.proofs.Product.{product, product-within, product-number, is-whole, not-whole, leftover-is}
 use Rattle.import.proofs.Meaning.{nothing-left, is-number, not-finite-answers, large-answers, whole-answers, near-answers}
 use Rattle.import.proofs.import_entry.Statement.{statement}

@@ -13,14 +13,11 @@ abbrev μ-loop : tie.MeasureT-loop
 loop-holds : tie.Need-loop-holds Inv-loop μ-loop
 loop-holds c = search needs
 
-shared-slice-read-if1 : tie.Need-shared-slice-read-if1 Inv-loop μ-loop
-shared-slice-read-if1 c = search needs
+shared-slice-read-mark : tie.Need-shared-slice-read-mark Inv-loop μ-loop
+shared-slice-read-mark c = search needs
 
-unsigned-requires : tie.Need-unsigned-requires Inv-loop μ-loop
-unsigned-requires c κs = search needs
-
-unsigned-requires-2 : tie.Need-unsigned-requires-2 Inv-loop μ-loop
-unsigned-requires-2 c κs = search needs
+mark-requires : tie.Need-mark-requires Inv-loop μ-loop
+mark-requires c κs = search needs
 
 add-i : tie.Need-add-i Inv-loop μ-loop
 add-i c = search needs
@@ -41,9 +38,8 @@ marks-spec =
     Inv-loop
     μ-loop
     loop-holds
-    shared-slice-read-if1
-    unsigned-requires
-    unsigned-requires-2
+    shared-slice-read-mark
+    mark-requires
     add-i
     loop-less
     loop-again

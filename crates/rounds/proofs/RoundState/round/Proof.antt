@@ -1,5 +1,5 @@
 use Prim.Native.Nat.{_<_}
-use mathlib.Core.Path.{_≡_, refl, sym, _∙_}
+use mathlib.Core.Path.{_≡_, sym, _∙_}
 use native.Mathlib.Omega.{arith}
 use borrow.Author.Needs.{needs}
 use lib.IntN.{pos}
@@ -9,13 +9,13 @@ use Rattle.integer.proofs.Sizes.{back, back-is}
 use Rattle.primal.specs.Padded.{padded}
 use Rattle.primal.specs.Held.{HeldMultipliers}
 use Rattle.steps.specs.Steps.{ahead}
-use Rattle.rounds.proofs.Entered.{round-ends}
+use Rattle.rounds.proofs.Entered.{round-ends, residuals-same}
 use Rattle.rounds.proofs.Filled.{held-ahead, inputs-within}
 use Rattle.rounds.proofs.RoundState.round.Statement.{statement}
 use Rattle.rounds.proofs.RoundState.round.Tie as tie
 
 abbrev start : tie.After-multipliers-ahead → tie.Start
-start c = c .before .before .before .before .before
+start c = c .before .before .before .before
 
 abbrev found : tie.After-weigh → tie.After-dual-at
 found c = c .before .before .before
@@ -44,7 +44,7 @@ cast-multipliers-ahead c = search needs
 
 multipliers-ahead-requires : tie.Need-multipliers-ahead-requires
 multipliers-ahead-requires c κs =
-    let s = c .before .before .before .before in
+    let s = c .before .before .before in
     let h = s .pre .1 .2 in
     let l = small s in
     rw (number-is s) (omega (arith, order), omega (arith, order), s .pre .0 .0 .steps .1, h .bounded, h .bounded-previous)
@@ -67,12 +67,11 @@ weigh-requires c κs =
       ),
     )
 
-ascend-requires : tie.Need-ascend-requires
-ascend-requires c κs =
+residuals-of-requires : tie.Need-residuals-of-requires
+residuals-of-requires c κs =
     let d = found c in
-    let y = held (d .before) in
     let n = d .dual-at .ensures .0 in
-    (start (d .before) .pre .0 .0, y .blank, y .bounded, n .blank, n .bounded)
+    (start (d .before) .pre .0 .0, n .blank, n .bounded)
 
 returns : tie.Need-returns
 returns c =
@@ -80,16 +79,15 @@ returns c =
     let w = a .before in
     let d = found w in
     let s = start (d .before) in
-    let h = s .pre .1 .2 in
     let y = held (d .before) in
-    let next = a .ascend .ensures in
+    let n = d .dual-at .ensures .0 in
+    let e = a .residuals-of .ensures in
     record {
-      ends = round-ends (s .args .t) (s .pre .0 .0) _ (d .dual-at .ensures .0) (s .args .k) (s .args .t1 .current) (s .args .t1 .previous) _ y
-          (w .weigh .ensures .0 .under _ (sym (floor-is d ∙ d .dual-at .ensures .1 .0))) (w .weigh .ensures .1 .0) next;
-      follows = refl;
-      held = record { blank = next .blank; bounded = next .bounded; blank-previous = h .blank; bounded-previous = h .bounded };
+      ends = round-ends (s .args .t) (s .pre .0 .0) _ n (s .args .k) (s .args .t1 .current) (s .args .t1 .previous) _ y
+          (w .weigh .ensures .0 .under _ (sym (floor-is d ∙ d .dual-at .ensures .1 .0))) (w .weigh .ensures .1 .0);
+      residuals = residuals-same (s .args .t) (s .pre .0 .0) (d .before .multipliers-ahead .result) n e;
+      held = record { blank = y .blank; bounded = y .bounded; blank-residuals = e .blank; bounded-residuals = e .bounded };
       plan-bounded = w .weigh .ensures .1 .1;
-      ahead-bounded = y .bounded;
     }
 
 pub round-spec : {M : Type 1} → statement M
@@ -100,5 +98,5 @@ round-spec =
     multipliers-ahead-requires
     dual-at-requires
     weigh-requires
-    ascend-requires
+    residuals-of-requires
     returns)

@@ -6,8 +6,8 @@ use denote.Ref.{now}
 use borrow.Author.Needs.{needs}
 use borrow.Rule.Slice.PartMut.{midOf}
 use Rattle.primal.specs.Padded.{padded}
-use Rattle.rounds.specs.Lent.{listed}
-use Rattle.rounds.proofs.Lent.{length-listed}
+use Rattle.primal.specs.Lent.{listed}
+use Rattle.primal.proofs.Lent.{length-listed}
 use Rattle.solver.proofs.Written.{WrittenSteps, written-none, written-room, written-more, written-whole, written-part}
 use Rattle.solver.proofs.write.write_multipliers.Statement.{statement}
 use Rattle.solver.proofs.write.write_multipliers.Tie as tie

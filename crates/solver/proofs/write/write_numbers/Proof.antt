@@ -2,13 +2,14 @@ use Prim.Native.Nat.{_≤_, _+_, _-_}
 use mathlib.Core.Path.{_∙_}
 use native.Mathlib.Omega.{arith}
 use lib.ListN.{length}
+use lib.IntN.{pos}
 use denote.Ref.{now}
 use borrow.Author.Needs.{needs}
 use mir.Facts.{toZ-ofZ}
 use Rattle.integer.specs.Places.{at, Stretch}
 use Rattle.integer.proofs.Sizes.{called, bounded-fits}
 use Rattle.integer.proofs.Places.{stretch-none, fill-store, fill-at}
-use Rattle.rounds.proofs.Lent.{listed-whole}
+use Rattle.primal.proofs.Lent.{listed-whole}
 use Rattle.solver.proofs.write.write_numbers.Statement.{statement}
 use Rattle.solver.proofs.write.write_numbers.Tie as tie
 
@@ -58,7 +59,7 @@ same-length c = search needs
 returns : tie.Need-returns Inv-loop μ-loop
 returns c =
     let l = c .before .loop in
-    listed-whole _ _ _ (l .inv .1 .same) (λ j h. fill-at (l .inv .1) j (omega arith))
+    listed-whole (pos 0) _ _ _ (l .inv .1 .same) (λ j h. fill-at (l .inv .1) j (omega arith))
 
 pub write-numbers-spec : {M : Type 1} → statement M
 write-numbers-spec =

@@ -5,8 +5,8 @@ use lib.ListN.{length}
 use denote.Ref.{now}
 use borrow.Author.Needs.{needs}
 use Rattle.primal.specs.Padded.{paddedPlan}
-use Rattle.rounds.specs.Lent.{listed}
-use Rattle.rounds.proofs.Lent.{length-step}
+use Rattle.primal.specs.Lent.{listed}
+use Rattle.primal.proofs.Lent.{length-step}
 use Rattle.solver.proofs.Written.{WrittenSteps, written-none, written-room, written-more, written-whole, written-part}
 use Rattle.solver.proofs.write.write_plan.Statement.{statement}
 use Rattle.solver.proofs.write.write_plan.Tie as tie

@@ -4,7 +4,7 @@ use denote.Ref.{now}
 use borrow.Author.Needs.{needs}
 use Rattle.integer.specs.Places.{at}
 use Rattle.integer.proofs.Sizes.{wider}
-use Rattle.rounds.specs.Lent.{listed}
+use Rattle.primal.specs.Lent.{listed}
 use Rattle.solver.proofs.Written.{both-listed}
 use Rattle.solver.proofs.write.write_step.Statement.{statement}
 use Rattle.solver.proofs.write.write_step.Tie as tie

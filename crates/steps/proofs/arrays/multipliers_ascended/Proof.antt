@@ -8,14 +8,14 @@ use borrow.Author.Needs.{needs}
 use Rattle.integer.specs.Places.{at}
 use Rattle.integer.proofs.Places.{stretch-none}
 use Rattle.integer.proofs.Sizes.{back, element-is}
-use Rattle.steps.specs.Steps.{ascended}
+use Rattle.steps.specs.Steps.{ascended, gainCorrection}
 use Rattle.steps.proofs.Combined.{Combined, combined-more}
 use Rattle.steps.proofs.arrays.multipliers_ascended.Statement.{statement}
 use Rattle.steps.proofs.arrays.multipliers_ascended.Tie as tie
 
 abbrev Inv-loop : tie.InvT-loop
 Inv-loop y e gain horizon count next₀ p₀ next p =
-    (p ≤ count) × Combined (ascended (toZ w64 gain)) y e p next
+    (p ≤ count) × Combined (λ a b. ascended a (gainCorrection (toZ w64 gain) b)) y e p next
 
 abbrev μ-loop : tie.MeasureT-loop
 μ-loop y e gain horizon count next₀ p₀ next p = count - p
@@ -66,7 +66,7 @@ loop-again c =
     let s = turn (c .before) .before .before in
     let h = s .pre in
     let r = c .ascended-of in
-    (omega arith, combined-more (ascended (back (s .args .gain))) (h .2) (omega arith) (h .3) (omega arith) (l .p) (r .result) (omega arith) (l .inv .1) (r .ok) (r .ensures))
+    (omega arith, combined-more (λ a b. ascended a (gainCorrection (back (s .args .gain)) b)) (h .2) (omega arith) (h .3) (omega arith) (l .p) (r .result) (omega arith) (l .inv .1) (r .ok) (r .ensures))
 
 returns : tie.Need-returns Inv-loop μ-loop
 returns c =

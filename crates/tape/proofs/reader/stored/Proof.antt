@@ -147,7 +147,7 @@ returns-7 : tie.Need-returns-7
 returns-7 c =
     let e = c .before .entry7 .given in
     let k = c .known-told7 .given in
-    rw (e .1, called (e .0 .0) (k .0 .1), called (e .0 .1 .1 .0) (k .1 .1 .0 .1))
+    rw (e .1, called (e .0 .1 .0) (k .1 .0 .1), called (e .0 .1 .1 .1 .0) (k .1 .1 .1 .0 .1))
 
 pub stored-spec : {M : Type 1} → statement M
 stored-spec =

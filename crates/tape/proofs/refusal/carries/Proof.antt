@@ -56,6 +56,9 @@ enum-known-refusal-13 c = search needs
 enum-known-refusal-14 : tie.Need-enum-known-refusal-14
 enum-known-refusal-14 c = search needs
 
+enum-known-refusal-15 : tie.Need-enum-known-refusal-15
+enum-known-refusal-15 c = search needs
+
 returns : tie.Need-returns
 returns c = rw (c .before .refusal .given .1)
 
@@ -110,6 +113,9 @@ returns-17 c = rw (c .before .refusal13 .given .1)
 returns-18 : tie.Need-returns-18
 returns-18 c = rw (c .before .refusal14 .given .1)
 
+returns-19 : tie.Need-returns-19
+returns-19 c = rw (c .before .refusal15 .given .1)
+
 pub carries-spec : {M : Type 1} → statement M
 carries-spec =
     tie.close
@@ -132,6 +138,7 @@ carries-spec =
     enum-told-4
     enum-known-refusal-13
     enum-known-refusal-14
+    enum-known-refusal-15
     returns
     returns-2
     returns-3
@@ -149,4 +156,5 @@ carries-spec =
     returns-15
     returns-16
     returns-17
-    returns-18)
+    returns-18
+    returns-19)

@@ -1,0 +1,4 @@
+-- Laws behind the proofs.
+pub mod Nearing
+pub mod Places
+pub mod Ascended

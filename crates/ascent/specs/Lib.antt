@@ -1,0 +1,3 @@
+-- The definitions that promises cite.
+pub mod Correction
+pub mod Held

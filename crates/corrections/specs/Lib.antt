@@ -1,0 +1,2 @@
+-- The definitions that promises cite.
+pub mod Corrections

@@ -15,7 +15,6 @@ ghost use Rattle.steps.specs.Steps.{minimisers};
 ghost use Rattle.rounds.specs.Running.{rounds, start};
 ghost use Rattle.rounds.specs.Held.{endingOf, HeldState, HeldResiduals, RoundFrom};
 use ascent::ascend_by_band;
-use ascent::ascend_by_gain;
 use banded::factored_of;
 use dual::floor::offset;
 use dual::pieces::pieces;
@@ -25,6 +24,7 @@ use primal::model::residuals;
 use primal::terms::Terms;
 use steps::arrays::minimisers;
 use steps::arrays::multipliers_ahead;
+use steps::arrays::multipliers_ascended;
 use steps::verdict::Verdict;
 use steps::verdict::weigh;
 use tape::Tape;
@@ -155,12 +155,14 @@ pub fn run_rounds(t: Tape, terms: Terms) -> Outcome
     ensures { λ r. ⌜ Bounded mostNumber (r .plan) × Bounded mostMultiplier (r .multipliers) ⌝ }
 {
     let limit = t.rounds;
+    let horizon = t.horizon;
+    let gain = t.gain;
     let highest = ceiling_of(
         &terms.penalty,
         &terms.low,
         &terms.high,
         &terms.reference,
-        t.horizon,
+        horizon,
     );
     let factored = factored_of(t);
     let rows = factored.rows;
@@ -171,7 +173,6 @@ pub fn run_rounds(t: Tape, terms: Terms) -> Outcome
         let verdict = round.verdict;
         let plan = round.plan;
         let ahead = round.ahead;
-        let e = round.residuals;
         let entered = k + 1;
         match verdict {
             Verdict::Proved(gap) => {
@@ -191,9 +192,10 @@ pub fn run_rounds(t: Tape, terms: Terms) -> Outcome
             Verdict::Neither => {}
         }
         let next = if factored.usable {
+            let e = round.residuals;
             ascend_by_band(t, rows, ahead, e)
         } else {
-            ascend_by_gain(t, ahead, e)
+            multipliers_ascended(&ahead, &round.residuals, gain, horizon)
         };
         state = state.next(next);
         k = entered;

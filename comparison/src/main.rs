@@ -2,7 +2,6 @@
 #![forbid(unsafe_code)]
 
 mod banded;
-mod benchmark;
 mod calls;
 mod cases;
 mod compare;
@@ -78,10 +77,6 @@ comparison memory [COUNT [SEED]]
     write outside what is lent:
         valgrind -q --error-exitcode=1 target/release/comparison memory
 
-comparison benchmark [COUNT]
-    Solves COUNT (20) full-size tapes with both, in turn, and prints times, rounds per second and
-    the ratio. Fails if an answer, a plan or multipliers differ.
-
 The program slip is target/bin/slip of the repository, or what FIBERGRAVEL_SLIP names.
 ";
 
@@ -109,8 +104,6 @@ fn run(words: &[&str]) -> Result<ExitCode, String> {
         ["memory"] => memory::memory(200, memory::SEED)?,
         ["memory", count] => memory::memory(number(count)?, memory::SEED)?,
         ["memory", count, seed] => memory::memory(number(count)?, number(seed)?)?,
-        ["benchmark"] => benchmark::benchmark(20)?,
-        ["benchmark", count] => benchmark::benchmark(number(count)?.max(1) as usize)?,
         _ => return Err("no such subcommand; see comparison --help".to_string()),
     }
     Ok(ExitCode::SUCCESS)

@@ -1,5 +1,5 @@
 // Step 4 of a round by command 51: the next multipliers, from y~ and the residuals of the numbers of
-// step 2. By command 50 it is `steps::arrays::multipliers_ascended`.
+// step 2. By command 50 it is `passes::ascend::ascend`.
 mod band;
 pub mod multiplier;
 

@@ -47,13 +47,21 @@ fn carried_slope(a: &[i64; 36], y: &[i64; 72], k: usize, i: usize, horizon: usiz
     0
 }
 
+// The slope of x(k+1,i).
+pub fn state_slope_at(a: &[i64; 36], y: &[i64; 72], k: usize, i: usize, horizon: usize) -> i64
+    requires { ⌜ (i < 6) × (k < horizon) × (horizon ≤ 12) × Bounded mostEntry (now a) × Bounded mostMultiplier (now y) ⌝ }
+    ensures { λ r. ⌜ r ≡ stateSlope 6 horizon (stateMatrix (now (a .entry))) (padded (now (y .entry))) k i ⌝ }
+{
+    -4096 * y[6 * k + i] + carried_slope(a, y, k, i, horizon)
+}
+
 fn state_slopes(s: &mut [i64; 120], a: &[i64; 36], y: &[i64; 72], k: usize, horizon: usize)
     requires { ⌜ (k < horizon) × (horizon ≤ 12) × (length (now s) ≡ 120) × Bounded mostEntry (now a) × Bounded mostMultiplier (now y) ⌝ }
     ensures { λ _. ⌜ Stretch (10 * k + 4) 6 (stateSlope 6 horizon (stateMatrix (now (a .entry))) (padded (now (y .entry))) k) (now (s .entry)) (now (s .exit)) ⌝ }
 {
     let mut i: usize = 0;
     while i < 6 {
-        s[10 * k + 4 + i] = -4096 * y[6 * k + i] + carried_slope(a, y, k, i, horizon);
+        s[10 * k + 4 + i] = state_slope_at(a, y, k, i, horizon);
         i += 1;
     }
 }

@@ -1,5 +1,6 @@
 -- Laws of the padded problem, and how large its numbers are.
 pub mod Places
+pub mod LiftedQuotient
 pub mod ProductSizes
 pub mod ModelSizes
 pub mod TermSizes

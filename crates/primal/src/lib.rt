@@ -2,5 +2,6 @@
 // lengths: places beyond the sizes hold 0 and add nothing.
 pub mod cost;
 pub mod dot;
+pub mod lifted;
 pub mod model;
 pub mod terms;

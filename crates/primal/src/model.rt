@@ -10,10 +10,10 @@ ghost use Rattle.problem.specs.Model.{stateAt, modelSum, rounded};
 ghost use Rattle.primal.specs.Padded.{stateMatrix, inputMatrix, paddedPlan};
 ghost use Rattle.primal.specs.Ranges.{mostForcing};
 use crate::dot::dot;
-use integer::number::quotient;
+use crate::lifted::lifted_quotient;
 
 // What the states before step k add to S: the start's, or those of the step before.
-fn from_states<'a>(
+pub fn from_states<'a>(
     a: &'a [i64; 36],
     start: &'a [i64; 6],
     v: &'a [i64; 120],
@@ -53,7 +53,7 @@ pub fn state_of(s: i64) -> i64
     requires { ⌜ natAbs s < 2 ^ 40 ⌝ }
     ensures { λ r. ⌜ r ≡ rounded s ⌝ }
 {
-    quotient(s + 2048, 4096)
+    lifted_quotient(s + 2048, 4096)
 }
 
 fn step_residuals<'a>(

@@ -12,3 +12,4 @@ pub mod Rounded
 pub mod Between
 pub mod Congruence
 pub mod Figures
+pub mod Upper

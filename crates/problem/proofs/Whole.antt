@@ -20,7 +20,7 @@ use Rattle.problem.proofs.Scaled.{scaled-same}
 
 -- ---- The problem in units of 1 is the problem
 
-finer-one : (q : Problem) → finer (pos 1) q ≡ q
+pub finer-one : (q : Problem) → finer (pos 1) q ≡ q
 finer-one = scaled-same (λ z. pos 1 *ℤ z) (λ z. z) (λ z. ring 1 (λ z. K 1 ⊗ z ≐ z) tt z)
 
 pub cost-one : (q : Problem) (v : List ℤ) → rivalCost q (pos 1) v ≡ planCost q (planOf (q .n) (q .m) v)

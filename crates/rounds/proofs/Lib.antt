@@ -1,4 +1,6 @@
 -- Laws behind the proofs.
-pub mod Entered
 pub mod Filled
+pub mod Sums
+pub mod Weighing
+pub mod Entered
 pub mod Figures

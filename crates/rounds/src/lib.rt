@@ -1,93 +1,46 @@
-// A round from its state, by the first three of document 01's four steps, and the rounds of a solve.
-ghost use Prim.Native.Nat.{_<_, _≤_};
+// The rounds of a solve. Each takes document 01's four steps. Step 4 goes before step 3: its residuals
+// bound the floor, and only where that bound leaves an answer open is the floor itself worked out.
+mod verdict;
+
 ghost use mathlib.Core.Path.{_≡_};
+ghost use mathlib.Core.Bool.{true};
 ghost use lib.ListN.{replicate};
-ghost use lib.IntN.{pos, natAbs};
+ghost use lib.IntN.{pos};
 ghost use Rattle.integer.specs.Places.{Bounded};
 ghost use Rattle.commands.specs.Ranges.{mostNumber, mostMultiplier};
 ghost use Rattle.tape.specs.Legal.{Legal};
 ghost use Rattle.problem.specs.Model.{problemOf};
-ghost use Rattle.problem.specs.Dual.{floor, ceiling};
-ghost use Rattle.primal.specs.Padded.{padded, paddedPlan};
+ghost use Rattle.problem.specs.Dual.{ceiling};
 ghost use Rattle.primal.specs.Terms.{TermsOf};
-ghost use Rattle.primal.specs.Held.{BlankPlan, BlankMultipliers, HeldPlan};
-ghost use Rattle.steps.specs.Steps.{minimisers};
+ghost use Rattle.primal.specs.Held.{BlankMultipliers, BlankPlan};
+ghost use Rattle.banded.specs.Step.{usesBand};
+ghost use Rattle.banded.specs.Rows.{TapeRows, RowsWhen};
+ghost use Rattle.lookup.specs.Table.{RowsOf};
+ghost use Rattle.rounds.specs.declared.Ended.the-variants as ends;
 ghost use Rattle.rounds.specs.Running.{rounds, start};
-ghost use Rattle.rounds.specs.Held.{endingOf, HeldState, HeldResiduals, RoundFrom};
+ghost use Rattle.rounds.specs.Held.{endingOf, NextHeld};
+use crate::verdict::may_answer;
+use crate::verdict::weigh;
 use ascent::ascend_by_band;
+use banded::Eliminated;
 use banded::factored_of;
-use dual::floor::offset;
-use dual::pieces::pieces;
-use dual::slopes::slopes;
+use banded::rows::Row;
+use lookup::minimise::minimise;
+use lookup::table::table_of;
+use passes::ascend::ascend;
+use passes::followed::follow;
+use passes::forced::force;
 use primal::cost::ceiling_of;
 use primal::model::residuals;
 use primal::terms::Terms;
-use steps::arrays::minimisers;
 use steps::arrays::multipliers_ahead;
-use steps::arrays::multipliers_ascended;
 use steps::verdict::Verdict;
-use steps::verdict::weigh;
 use tape::Tape;
-
-// The dual function at multipliers: its minimisers, which are the numbers of step 2, and its value,
-// the floor.
-pub struct Dual {
-    pub numbers: [i64; 120],
-    pub floor: i64,
-}
-
-fn dual_at(t: Tape, terms: Terms, y: [i64; 72]) -> Dual
-    requires { ⌜ Legal t × TermsOf t (terms .penalty) (terms .low) (terms .high) (terms .reference) ⌝ }
-    requires { ⌜ BlankMultipliers (t .n) y × Bounded mostMultiplier y ⌝ }
-    ensures { λ r. ⌜ HeldPlan (t .n) (t .m) (t .horizon) (minimisers (problemOf t) (padded y)) (r .numbers) ⌝ }
-    ensures { λ r. ⌜ (r .floor ≡ floor (problemOf t) (padded y)) × (natAbs (r .floor) ≤ 4541889529384009728) ⌝ }
-{
-    let horizon = t.horizon;
-    let s = slopes(&t.a, &t.b, &y, horizon);
-    let numbers = minimisers(
-        &terms.penalty,
-        &terms.low,
-        &terms.high,
-        &terms.reference,
-        &s,
-        horizon,
-    );
-    let least = pieces(
-        &terms.penalty,
-        &terms.low,
-        &terms.high,
-        &terms.reference,
-        &s,
-        horizon,
-    );
-    let rest = offset(&t.a, &t.drift, &t.start, &y, horizon);
-    Dual {
-        numbers: numbers,
-        floor: least + rest,
-    }
-}
-
-// The residuals of the numbers v of step 2.
-fn residuals_of(t: Tape, v: [i64; 120]) -> [i64; 72]
-    requires { ⌜ Legal t × BlankPlan (t .n) (t .m) v × Bounded mostNumber v ⌝ }
-    ensures { λ r. ⌜ HeldResiduals t (paddedPlan v) r ⌝ }
-{
-    residuals(&t.a, &t.b, &t.drift, &t.start, &v, t.horizon)
-}
 
 // The multipliers y of a round, and those before them.
 pub struct RoundState {
     pub current: [i64; 72],
     pub previous: [i64; 72],
-}
-
-// What steps 1 to 3 of a round give: its verdict, the candidate where that is 'proved', y~, and the
-// residuals of the numbers of step 2.
-pub struct Round {
-    pub verdict: Verdict,
-    pub plan: [i64; 120],
-    pub ahead: [i64; 72],
-    pub residuals: [i64; 72],
 }
 
 impl RoundState {
@@ -102,36 +55,13 @@ impl RoundState {
     }
 
     // The state with the next y: the one that was current goes before it.
-    fn next(self, y: [i64; 72]) -> RoundState
+    fn next(mut self, y: [i64; 72]) -> RoundState
         ensures { λ r. ⌜ (r .current ≡ y) × (r .previous ≡ self .current) ⌝ }
     {
         let current = self.current;
-        RoundState {
-            current: y,
-            previous: current,
-        }
-    }
-
-    // Round k up to its verdict; the ceiling is the same in all rounds.
-    fn round(self, t: Tape, terms: Terms, highest: i64, k: usize) -> Round
-        requires { ⌜ Legal t × TermsOf t (terms .penalty) (terms .low) (terms .high) (terms .reference) ⌝ }
-        requires { ⌜ (highest ≡ ceiling (problemOf t)) × (k < t .rounds) × HeldState t self ⌝ }
-        ensures { λ r. ⌜ RoundFrom t k self r ⌝ }
-    {
-        let horizon = t.horizon;
-        let ahead = multipliers_ahead(&self.current, &self.previous, k as i64, horizon);
-        let dual = dual_at(t, terms, ahead);
-        let v = dual.numbers;
-        let weighed = weigh(t, terms, highest, dual.floor, v);
-        let e = residuals_of(t, v);
-        let verdict = weighed.verdict;
-        let plan = weighed.plan;
-        Round {
-            verdict: verdict,
-            plan: plan,
-            ahead: ahead,
-            residuals: e,
-        }
+        self.previous = current;
+        self.current = y;
+        self
     }
 }
 
@@ -149,62 +79,100 @@ pub struct Outcome {
     pub multipliers: [i64; 72],
 }
 
+impl Outcome {
+    fn at_end(ended: Ended, plan: [i64; 120], multipliers: [i64; 72]) -> Outcome
+        ensures { λ r. ⌜ (r .ended ≡ ended) × (r .plan ≡ plan) × (r .multipliers ≡ multipliers) ⌝ }
+    {
+        Outcome {
+            ended: ended,
+            plan: plan,
+            multipliers: multipliers,
+        }
+    }
+
+    fn impossible(rounds: usize, multipliers: [i64; 72]) -> Outcome
+        ensures { λ r. ⌜ (r .ended ≡ ends.Impossible rounds) × (r .plan ≡ replicate 120 (pos 0)) × (r .multipliers ≡ multipliers) ⌝ }
+    {
+        let plan = [0i64; 120];
+        Outcome::at_end(Ended::Impossible(rounds), plan, multipliers)
+    }
+
+    fn open() -> Outcome
+        ensures { λ r. ⌜ (r .ended ≡ ends.Open) × (r .plan ≡ replicate 120 (pos 0)) × (r .multipliers ≡ replicate 72 (pos 0)) ⌝ }
+    {
+        let plan = [0i64; 120];
+        let multipliers = [0i64; 72];
+        Outcome::at_end(Ended::Open, plan, multipliers)
+    }
+}
+
+// Step 4 by command 51, from the numbers v of step 2.
+fn next_by_band(t: Tape, rows: [Row; 72], ahead: [i64; 72], v: [i64; 120]) -> [i64; 72]
+    requires { ⌜ Legal t × (usesBand t ≡ true) × TapeRows t rows × BlankMultipliers (t .n) ahead × Bounded mostMultiplier ahead ⌝ }
+    requires { ⌜ BlankPlan (t .n) (t .m) v × Bounded mostNumber v ⌝ }
+    ensures { λ r. ⌜ NextHeld t ahead v r ⌝ }
+{
+    let e = residuals(&t.a, &t.b, &t.drift, &t.start, &v, t.horizon);
+    ascend_by_band(t, rows, ahead, e)
+}
+
+// The rounds, from what is made once a solve: the table of the terms, the eliminated rows and the
+// ceiling.
+fn search(t: Tape, terms: Terms, table: [i64; 840], factored: Eliminated, highest: i64) -> Outcome
+    requires { ⌜ Legal t × TermsOf t (terms .penalty) (terms .low) (terms .high) (terms .reference) × (highest ≡ ceiling (problemOf t)) ⌝ }
+    requires { ⌜ RowsOf (terms .penalty) (terms .low) (terms .high) (terms .reference) table × (factored .usable ≡ usesBand t) × RowsWhen (factored .usable) t (factored .rows) ⌝ }
+    ensures { λ r. ⌜ rounds t (t .rounds) 0 (start t) (start t) ≡ endingOf t (r .ended) (r .plan) (r .multipliers) ⌝ }
+    ensures { λ r. ⌜ Bounded mostNumber (r .plan) × Bounded mostMultiplier (r .multipliers) ⌝ }
+{
+    let n = t.n;
+    let horizon = t.horizon;
+    let gain = t.gain;
+    let wanted = t.wanted;
+    let rows = factored.rows;
+    let mut state = RoundState::start();
+    let mut k: usize = 0;
+    while k < t.rounds {
+        let mut y = [0i64; 72];
+        multipliers_ahead(&mut y, &state.current, &state.previous, k as i64, horizon);
+        let mut v = [0i64; 120];
+        let costs = minimise(&mut v, &table, &t.a, &t.b, &y, horizon);
+        let mut forced = [0i64; 72];
+        force(&mut forced, &t.b, &t.drift, &v, horizon);
+        let mut next = [0i64; 72];
+        let pull = ascend(&mut next, &t.a, &forced, &t.start, &v, &y, gain, horizon);
+        if factored.usable {
+            next = next_by_band(t, rows, y, v);
+        }
+        let followed = follow(&mut v, &table, &t.a, &forced, &t.start, n, horizon);
+        let cost = costs.inputs + followed.cost;
+        let upper = costs.inputs + costs.states + pull;
+        let least = cost - upper;
+        k += 1;
+        if may_answer(followed.dropped, least, wanted, highest, upper) {
+            let verdict = weigh(t, terms, y, highest, followed.dropped, cost);
+            match verdict {
+                Verdict::Proved(gap) => return Outcome::at_end(Ended::Proved(k, gap), v, y),
+                Verdict::Impossible => return Outcome::impossible(k, y),
+                Verdict::Neither => {}
+            }
+        }
+        state = state.next(next);
+    }
+    Outcome::open()
+}
+
 pub fn run_rounds(t: Tape, terms: Terms) -> Outcome
     requires { ⌜ Legal t × TermsOf t (terms .penalty) (terms .low) (terms .high) (terms .reference) ⌝ }
     ensures { λ r. ⌜ rounds t (t .rounds) 0 (start t) (start t) ≡ endingOf t (r .ended) (r .plan) (r .multipliers) ⌝ }
     ensures { λ r. ⌜ Bounded mostNumber (r .plan) × Bounded mostMultiplier (r .multipliers) ⌝ }
 {
-    let limit = t.rounds;
-    let horizon = t.horizon;
-    let gain = t.gain;
     let highest = ceiling_of(
         &terms.penalty,
         &terms.low,
         &terms.high,
         &terms.reference,
-        horizon,
+        t.horizon,
     );
-    let factored = factored_of(t);
-    let rows = factored.rows;
-    let mut state = RoundState::start();
-    let mut k: usize = 0;
-    while k < limit {
-        let round = state.round(t, terms, highest, k);
-        let verdict = round.verdict;
-        let plan = round.plan;
-        let ahead = round.ahead;
-        let entered = k + 1;
-        match verdict {
-            Verdict::Proved(gap) => {
-                return Outcome {
-                    ended: Ended::Proved(entered, gap),
-                    plan: plan,
-                    multipliers: ahead,
-                };
-            }
-            Verdict::Impossible => {
-                return Outcome {
-                    ended: Ended::Impossible(entered),
-                    plan: plan,
-                    multipliers: ahead,
-                };
-            }
-            Verdict::Neither => {}
-        }
-        let next = if factored.usable {
-            let e = round.residuals;
-            ascend_by_band(t, rows, ahead, e)
-        } else {
-            multipliers_ascended(&ahead, &round.residuals, gain, horizon)
-        };
-        state = state.next(next);
-        k = entered;
-    }
-    let plan = [0i64; 120];
-    let multipliers = [0i64; 72];
-    Outcome {
-        ended: Ended::Open,
-        plan: plan,
-        multipliers: multipliers,
-    }
+    let table = table_of(&terms.penalty, &terms.low, &terms.high, &terms.reference);
+    search(t, terms, table, factored_of(t), highest)
 }

@@ -1,18 +1,16 @@
 -- What the functions of the steps tell each other and the round.
 use Prim.Native.Nat.{ℕ, _<_}
-use mathlib.Core.Path.{_≡_}
-use mathlib.Core.Bool.{Bool, true, false}
+use mathlib.Core.Bool.{Bool, true, false, cond}
 use mathlib.Core.List.{List}
 use lib.IntN.{ℤ}
+use lib.Signed.{leZ, ltZ}
 use Rattle.integer.specs.Places.{Stretch}
 use Rattle.tape.specs.declared.Tape.{Tape}
-use Rattle.problem.specs.Model.{Problem, Plan, problemOf}
+use Rattle.problem.specs.Model.{Problem, Plan}
 use Rattle.problem.specs.Cost.{Within}
-use Rattle.problem.specs.Dual.{floor}
 use Rattle.primal.specs.Held.{HeldPlan}
 use Rattle.steps.specs.declared.verdict.Verdict.{Verdict}
 use Rattle.steps.specs.declared.verdict.Verdict.the-variants.{Proved, Impossible, Neither}
-use Rattle.steps.specs.Steps.{verdict}
 
 -- the inputs of a plan lie within their limits
 pub record InputsWithin (q : Problem) (u : ℕ → ℕ → ℤ) : Type 0 where
@@ -34,6 +32,7 @@ HeldWhenProved (Proved gap) t v l = HeldPlan (t .n) (t .m) (t .horizon) v l
 HeldWhenProved Impossible t v l = Unit {0}
 HeldWhenProved Neither t v l = Unit {0}
 
--- the verdict under any multipliers of this floor
-pub record VerdictOn (t : Tape) (v : Plan) (lowest : ℤ) (r : Verdict) : Type 0 where
-  pub under : (y : ℕ → ℕ → ℤ) → floor (problemOf t) y ≡ lowest → r ≡ verdict t v y
+-- the verdict by its tests: a gap of at most T, else a floor above the ceiling
+unfoldable pub verdictBy : Bool → ℤ → ℤ → ℤ → ℤ → Verdict
+verdictBy dropped gap wanted highest lowest =
+    cond (cond dropped false (leZ gap wanted)) (Proved gap) (cond (ltZ highest lowest) Impossible Neither)

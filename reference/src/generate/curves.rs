@@ -34,7 +34,7 @@ pub fn put_any(
 }
 
 /// Curves for a third of the furnaces near rest: mostly ones that they can follow.
-pub(super) fn put_near_rest(furnace: &mut Furnace, random: &mut Random) {
+pub fn put_near_rest(furnace: &mut Furnace, random: &mut Random) {
     if drawn(random) {
         match random.below(4) {
             0 => put_wild(furnace, random),

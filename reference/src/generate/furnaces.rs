@@ -50,11 +50,7 @@ pub fn sized(states: usize, inputs: usize, horizon: usize) -> Furnace {
 }
 
 /// Sets every number of a furnace: `number` gives one within plus and minus the range.
-pub(super) fn fill(
-    furnace: &mut Furnace,
-    random: &mut Random,
-    number: fn(&mut Random, Whole) -> Whole,
-) {
+pub fn fill(furnace: &mut Furnace, random: &mut Random, number: fn(&mut Random, Whole) -> Whole) {
     for i in 0..furnace.states {
         for j in 0..furnace.states {
             furnace.a[i][j] = number(random, ENTRY_RANGE);
@@ -75,7 +71,7 @@ pub(super) fn fill(
 }
 
 /// A number of any size within the range.
-pub(super) fn any_size(random: &mut Random, range: Whole) -> Whole {
+pub fn any_size(random: &mut Random, range: Whole) -> Whole {
     match random.below(6) {
         0 => 0,
         1 => random.between(-10, 10),
@@ -149,7 +145,7 @@ pub fn largest(random: &mut Random) -> Furnace {
 }
 
 /// A blank furnace with the numbers of one near rest.
-pub(super) fn put_near_rest(mut furnace: Furnace, random: &mut Random) -> Furnace {
+pub fn put_near_rest(mut furnace: Furnace, random: &mut Random) -> Furnace {
     let deviation = random.choose(&[2, 10, 40, 150, 400]);
     put_columns(&mut furnace, random, deviation);
     put_entries(&mut furnace, random);
@@ -211,7 +207,7 @@ pub(super) fn put_at_rest(furnace: &mut Furnace, random: &mut Random, deviation:
 }
 
 /// The drift of state i under which its reference follows from all references.
-pub(super) fn rest_drift(furnace: &Furnace, i: usize) -> Whole {
+pub fn rest_drift(furnace: &Furnace, i: usize) -> Whole {
     let mut drift = UNIT * furnace.columns[i].reference;
     for j in 0..furnace.states {
         drift -= furnace.a[i][j] * furnace.columns[j].reference;
@@ -232,8 +228,8 @@ fn price_for_step_size(column: &Column) -> Whole {
 /// The step size at which the rounds surely converge, times `numerator` / `denominator`. It is
 /// 65,536 over a bound of the largest eigenvalue of M H⁻¹ Mᵀ, where M has a row for each
 /// residual and H is diagonal with 2P; the bound is the largest sum of a row's entries. Where a
-/// weight is 0 nothing is sure, and [`price_for_step_size`] stands for P.
-fn tuned_step_size(furnace: &Furnace, numerator: Whole, denominator: Whole) -> Whole {
+/// weight is 0 nothing is sure, and it counts as 1.
+pub fn tuned_step_size(furnace: &Furnace, numerator: Whole, denominator: Whole) -> Whole {
     let mut bound = 1;
     for i in 0..furnace.states {
         let twice_price = |c: usize| 2 * price_for_step_size(&furnace.columns[c]);
@@ -361,7 +357,7 @@ fn tune_to_prove(furnace: &mut Furnace, random: &mut Random, most: u32) -> bool 
 
 /// Moves the limits of one state out of reach: above the highest, or below the lowest, that the
 /// model gives it in some step.
-pub(super) fn put_out_of_reach(furnace: &mut Furnace, random: &mut Random, margin: Whole) {
+pub fn put_out_of_reach(furnace: &mut Furnace, random: &mut Random, margin: Whole) {
     let i = random.below(furnace.states);
     let upwards = random.one_in(2);
     let step = random.below(furnace.horizon);

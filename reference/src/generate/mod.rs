@@ -23,7 +23,7 @@ pub mod models;
 pub mod random;
 pub mod rare;
 pub mod records;
-mod weights;
+pub mod weights;
 
 pub use banded::{Lending, NextStep};
 pub use duties::Duty;

@@ -10,7 +10,7 @@ use crate::tape::NUMBER_RANGE;
 
 /// Which columns of a furnace get weight 0.
 #[derive(Clone, Copy)]
-pub(super) enum Zeros {
+pub enum Zeros {
     /// None.
     None,
     /// One state, some or all.
@@ -29,7 +29,7 @@ pub(super) enum Zeros {
 
 impl Zeros {
     /// None for two furnaces in three.
-    pub(super) fn any(random: &mut Random) -> Zeros {
+    pub fn any(random: &mut Random) -> Zeros {
         if !random.one_in(3) {
             return Zeros::None;
         }
@@ -44,7 +44,7 @@ impl Zeros {
     }
 
     /// Puts the weights of these columns at 0.
-    pub(super) fn put(self, furnace: &mut Furnace, random: &mut Random) {
+    pub fn put(self, furnace: &mut Furnace, random: &mut Random) {
         let (states, columns) = (furnace.states, furnace.columns.len());
         let chosen = match self {
             Zeros::None => Vec::new(),

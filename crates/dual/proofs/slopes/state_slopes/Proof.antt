@@ -1,14 +1,12 @@
 use Prim.Native.Nat.{_+_, _*_, _-_, _≤_}
-use mathlib.Core.Path.{_≡_}
+use mathlib.Core.Path.{_≡_, _∙_}
 use native.Mathlib.Omega.{arith}
-use lib.IntN.{negsuc, _+ℤ_, _*ℤ_}
 use borrow.Author.Needs.{needs}
 use Rattle.integer.specs.Places.{Stretch}
-use Rattle.integer.proofs.Sizes.{called, back, element-is, Formed, formed}
+use Rattle.integer.proofs.Sizes.{called}
 use Rattle.integer.proofs.Places.{stretch-none, stretch-store}
 use Rattle.problem.specs.Dual.{stateSlope}
 use Rattle.primal.specs.Padded.{stateMatrix, padded}
-use Rattle.dual.proofs.SlopeSizes.{size-scaled, size-stateSlope}
 use Rattle.dual.proofs.slopes.state_slopes.Statement.{statement}
 use Rattle.dual.proofs.slopes.state_slopes.Tie as tie
 
@@ -21,59 +19,20 @@ abbrev μ-loop : tie.MeasureT-loop
 loop-holds : tie.Need-loop-holds Inv-loop μ-loop
 loop-holds c = (omega arith, stretch-none _ _ _)
 
-mul-s : tie.Need-mul-s Inv-loop μ-loop
-mul-s c = search needs
+state-slope-at-requires : tie.Need-state-slope-at-requires Inv-loop μ-loop
+state-slope-at-requires c κs = search needs
 
-add-s : tie.Need-add-s Inv-loop μ-loop
-add-s c = search needs
+mul-t9 : tie.Need-mul-t9 Inv-loop μ-loop
+mul-t9 c = search needs
 
-mul-s-2 : tie.Need-mul-s-2 Inv-loop μ-loop
-mul-s-2 c = search needs
+add-t10 : tie.Need-add-t10 Inv-loop μ-loop
+add-t10 c = search needs
 
-element-copy-out-s : tie.Need-element-copy-out-s Inv-loop μ-loop
-element-copy-out-s c = search needs
+add-t11 : tie.Need-add-t11 Inv-loop μ-loop
+add-t11 c = search needs
 
-scaled : (c : tie.After-s Inv-loop μ-loop) →
-    let a = c .before .before .before .args in
-    let i = c .before .before .loop .i in
-    Formed (negsuc 4095 *ℤ back (padded (a .y .now) (a .k) i)) (negsuc 4095 *ℤ padded (a .y .now) (a .k) i)
-scaled c =
-    let a = c .before .before .before .args in
-    let h = c .before .before .before .pre .4 in
-    let p = 6 * a .k + c .before .before .loop .i in
-    formed (rw (element-is h (omega arith) p)) (size-scaled h p) (omega arith)
-
-mul-s-3 : tie.Need-mul-s-3 Inv-loop μ-loop
-mul-s-3 c = scaled c .fits
-
-carried-slope-requires : tie.Need-carried-slope-requires Inv-loop μ-loop
-carried-slope-requires c κs = search needs
-
-slope : (c : tie.After-carried-slope Inv-loop μ-loop) →
-    let a = c .before .before .before .before .args in
-    let i = c .before .before .before .loop .i in
-    Formed (back (negsuc 4095 *ℤ back (padded (a .y .now) (a .k) i)) +ℤ back (c .carried-slope .result))
-    (stateSlope 6 (a .horizon) (stateMatrix (a .a .now)) (padded (a .y .now)) (a .k) i)
-unfolding stateSlope
-slope c =
-    let f = c .carried-slope in
-    let h = c .before .before .before .before .pre in
-    formed (rw (scaled (c .before) .is, called (f .result) (f .ok), f .ensures)) (size-stateSlope (h .3) (h .4) _ _ _) (omega arith)
-
-add-s-2 : tie.Need-add-s-2 Inv-loop μ-loop
-add-s-2 c = slope c .fits
-
-mul-t17 : tie.Need-mul-t17 Inv-loop μ-loop
-mul-t17 c = search needs
-
-add-t18 : tie.Need-add-t18 Inv-loop μ-loop
-add-t18 c = search needs
-
-add-t19 : tie.Need-add-t19 Inv-loop μ-loop
-add-t19 c = search needs
-
-mul-t20 : tie.Need-mul-t20 Inv-loop μ-loop
-mul-t20 c = search needs
+mul-t12 : tie.Need-mul-t12 Inv-loop μ-loop
+mul-t12 c = search needs
 
 element-set-from-s : tie.Need-element-set-from-s Inv-loop μ-loop
 element-set-from-s c = search needs
@@ -85,7 +44,9 @@ loop-less : tie.Need-loop-less Inv-loop μ-loop
 loop-less c = search needs
 
 loop-again : tie.Need-loop-again Inv-loop μ-loop
-loop-again c = (omega arith, stretch-store _ _ _ _ _ _ (omega arith) (c .before .before .before .loop .inv .1) (slope c .is))
+loop-again c =
+    let f = c .state-slope-at in
+    (omega arith, stretch-store _ _ _ _ _ _ (omega arith) (c .before .before .loop .inv .1) (called (f .result) (f .ok) ∙ f .ensures))
 
 returns : tie.Need-returns Inv-loop μ-loop
 returns c = let e : c .before .loop .i ≡ 6 = omega arith in rw e at (c .before .loop .inv .1)
@@ -97,17 +58,11 @@ state-slopes-spec =
     Inv-loop
     μ-loop
     loop-holds
-    mul-s
-    add-s
-    mul-s-2
-    element-copy-out-s
-    mul-s-3
-    carried-slope-requires
-    add-s-2
-    mul-t17
-    add-t18
-    add-t19
-    mul-t20
+    state-slope-at-requires
+    mul-t9
+    add-t10
+    add-t11
+    mul-t12
     element-set-from-s
     add-i
     loop-less

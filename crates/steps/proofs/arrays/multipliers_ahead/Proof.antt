@@ -14,11 +14,11 @@ use Rattle.steps.proofs.arrays.multipliers_ahead.Statement.{statement}
 use Rattle.steps.proofs.arrays.multipliers_ahead.Tie as tie
 
 abbrev Inv-loop : tie.InvT-loop
-Inv-loop y previous k horizon count next₀ p₀ next p =
-    (p ≤ count) × Combined (ahead (toZ w64 k)) y previous p next
+Inv-loop next₀ y previous k horizon count p₀ next p =
+    (p ≤ count) × Combined (ahead (toZ w64 k)) y previous next₀ p next
 
 abbrev μ-loop : tie.MeasureT-loop
-μ-loop y previous k horizon count next₀ p₀ next p = count - p
+μ-loop next₀ y previous k horizon count p₀ next p = count - p
 
 mul-count : tie.Need-mul-count Inv-loop μ-loop
 mul-count c = search needs
@@ -48,11 +48,11 @@ ahead-of-requires c κs =
     rw (toZ-ofZ (turn c .before .before .fits .k), element-is (h .3) (omega arith) p, element-is (h .4) (omega arith) p)
     (h .0, h .1, h .3 .each p, h .4 .each p)
 
-mul-next : tie.Need-mul-next Inv-loop μ-loop
-mul-next c = search needs
+mul-t18 : tie.Need-mul-t18 Inv-loop μ-loop
+mul-t18 c = search needs
 
-array-set-from-next : tie.Need-array-set-from-next Inv-loop μ-loop
-array-set-from-next c = search needs
+element-set-from-next : tie.Need-element-set-from-next Inv-loop μ-loop
+element-set-from-next c = search needs
 
 add-p : tie.Need-add-p Inv-loop μ-loop
 add-p c = search needs
@@ -66,7 +66,7 @@ loop-again c =
     let s = turn (c .before) .before .before in
     let h = s .pre in
     let r = c .ahead-of in
-    (omega arith, combined-more (ahead (back (s .args .k))) (h .3) (omega arith) (h .4) (omega arith) (l .p) (r .result) (omega arith) (l .inv .1) (r .ok) (r .ensures))
+    (omega arith, combined-more (ahead (back (s .args .k))) (h .3) (omega arith) (h .4) (omega arith) (l .p) (r .result) (omega (arith, h .5)) (l .inv .1) (r .ok) (r .ensures))
 
 returns : tie.Need-returns Inv-loop μ-loop
 returns c =
@@ -86,8 +86,8 @@ multipliers-ahead-spec =
     mul-ahead-of-2
     element-copy-out-ahead-of-2
     ahead-of-requires
-    mul-next
-    array-set-from-next
+    mul-t18
+    element-set-from-next
     add-p
     loop-less
     loop-again

@@ -32,21 +32,21 @@ module _ (c : tie.Start) where
   dividend : Formed (back (back e *ℤ back gain) +ℤ pos 32768) (e *ℤ gain +ℤ pos 32768)
   dividend = formed (rw (product .is)) size-dividend (omega arith)
 
-mul-quotient : tie.Need-mul-quotient
-mul-quotient c = product c .fits
+mul-lifted-quotient : tie.Need-mul-lifted-quotient
+mul-lifted-quotient c = product c .fits
 
-add-quotient : tie.Need-add-quotient
-add-quotient c = dividend c .fits
+add-lifted-quotient : tie.Need-add-lifted-quotient
+add-lifted-quotient c = dividend c .fits
 
-quotient-requires : tie.Need-quotient-requires
-quotient-requires c κs = search needs
+lifted-quotient-requires : tie.Need-lifted-quotient-requires
+lifted-quotient-requires c κs = rw (dividend c .is) (let h = size-dividend c in (omega arith, omega arith, omega arith))
 
-total : (c : tie.After-quotient) →
-    let a = c .before .args in Formed (back (a .y) +ℤ back (c .quotient .result)) (a .y +ℤ (a .e *ℤ a .gain +ℤ pos 32768) ÷ pos 65536)
+total : (c : tie.After-lifted-quotient) →
+    let a = c .before .args in Formed (back (a .y) +ℤ back (c .lifted-quotient .result)) (a .y +ℤ (a .e *ℤ a .gain +ℤ pos 32768) ÷ pos 65536)
 total c =
     let b = c .before in
-    moved (b .args .y) _ _ (c .quotient .result) (b .pre .1) (size-dividend b) (omega arith)
-    (called (c .quotient .result) (c .quotient .ok) ∙ rw (dividend b .is) at (c .quotient .ensures))
+    moved (b .args .y) _ _ (c .lifted-quotient .result) (b .pre .1) (size-dividend b) (omega arith)
+    (called (c .lifted-quotient .result) (c .lifted-quotient .ok) ∙ rw (dividend b .is) at (c .lifted-quotient .ensures))
 
 add-limit : tie.Need-add-limit
 add-limit c = total c .fits
@@ -59,4 +59,4 @@ unfolding ascended
 returns c = called (c .limit .result) (c .limit .ok) ∙ rw (total (c .before) .is) at (c .limit .ensures)
 
 pub ascended-of-spec : {M : Type 1} → statement M
-ascended-of-spec = tie.close (tie.spec mul-quotient add-quotient quotient-requires add-limit limit-requires returns)
+ascended-of-spec = tie.close (tie.spec mul-lifted-quotient add-lifted-quotient lifted-quotient-requires add-limit limit-requires returns)

@@ -1,5 +1,7 @@
 // Step 4 of a round by command 51: the next multipliers, from y~ and the residuals of the numbers of
 // step 2. By command 50 it is `passes::ascend::ascend`.
+#![tactic(auto)]
+
 mod band;
 pub mod multiplier;
 

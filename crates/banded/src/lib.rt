@@ -1,4 +1,6 @@
 // The banded step of document 02, request 9: W × d = e in 64-bit floats.
+#![tactic(auto)]
+
 pub mod rows;
 pub mod solve;
 mod weights;
@@ -14,7 +16,7 @@ use crate::weights::weights_row;
 use tape::Tape;
 
 // A tape's eliminated rows, and whether all their pivots are finite and above 0.
-#[derive(Drop)]
+#[derive(Clone, Copy)]
 pub struct Eliminated {
     pub usable: bool,
     pub rows: [Row; 72],

@@ -7,7 +7,7 @@ ghost use Rattle.banded.specs.Rows.{Working, Factors, Kept, KeptRows, Reduced};
 
 // A row that is eliminated: the couplings are its entries in the columns after the pivot; factor q is
 // that of the row 11 − q rows before it.
-#[derive(Drop)]
+#[derive(Clone, Copy)]
 pub struct Row {
     pub pivot: f64,
     pub couplings: [f64; 11],

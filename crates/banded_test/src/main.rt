@@ -1,5 +1,7 @@
 // Runs the banded step's functions on the cases on standard input: which pivots can be used, the next
 // multiplier from any d, and the correction of residuals.
+#![tactic(auto)]
+
 use ascent::multiplier::next_multiplier;
 use banded::rows::is_usable;
 use cases::floats::{bits, float_at};

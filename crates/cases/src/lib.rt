@@ -3,6 +3,8 @@
 // `solve HEX / numbers / numbers`, `entry HEX`, `model HEX / numbers`, `count HEX`,
 // `missing HEX / numbers`, `pivot HEX`, `next HEX / number` or `correction HEX / numbers`, as the second
 // program takes them. What follows a # is passed over.
+#![tactic(auto)]
+
 pub mod floats;
 
 use integer::number::size;
@@ -11,7 +13,7 @@ use tape::refusal::{Carried, Refusal, carries, number};
 // A case as far as it has been read, character by character. The kind is the last such letter of the
 // line's word, 0 before it; words of two programs may share theirs, as `read` and `ranges` do. Digits of
 // a tape, or of floats, are 0 to 9 and A to F; numbers are decimal.
-#[derive(Drop)]
+#[derive(Clone, Copy)]
 pub struct Case {
     pub kind: u8,
     pub comment: bool,

@@ -1,5 +1,7 @@
 // The commands of a tape: their bytes, their operands and the tests of document 01's table, with
 // commands 31 and 51 of document 02, requests 1 and 9.
+#![tactic(auto)]
+
 pub mod mark;
 pub mod range;
 
@@ -20,7 +22,7 @@ use integer::number::is_outside;
 
 // What a command gives: the number or numbers of one place. Of the rounds, first whether it is command
 // 51, the banded step, and not 50.
-#[derive(Drop)]
+#[derive(Clone, Copy)]
 pub enum Entry {
     State(usize, usize, i64),
     Input(usize, usize, i64),
@@ -32,7 +34,7 @@ pub enum Entry {
 }
 
 // A command with its operands, or what stands in their way.
-#[derive(Drop)]
+#[derive(Clone, Copy)]
 pub enum Command {
     Unknown,
     Cut,

@@ -1,4 +1,6 @@
 // The correction of given residuals by the banded step, and the pivots behind it.
+#![tactic(auto)]
+
 ghost use Rattle.std.specs.Prelude.{ℕ, ◌≤◌, ◌≡◌, length};
 ghost use Rattle.integer.specs.Places.{at, Bounded};
 ghost use Rattle.tape.specs.Legal.{Legal};
@@ -18,7 +20,7 @@ use tape::refusal::Refusal;
 use tape::{Answer, Tape, read};
 
 // Written: the pivots and d. Unused: the tape has command 50, or falls back on g.
-#[derive(Drop)]
+#[derive(Clone, Copy)]
 pub enum Corrected {
     Written,
     Unused,

@@ -98,6 +98,10 @@ summed f true a false b c =
 
 differs : (f : Format) (x y : Float) → Finite x → Finite y → Summed f (sub f x y) (numerator x *ℤ pos (denominator y) -ℤ numerator y *ℤ pos (denominator x)) (denominator x * denominator y)
 unfolding sub add neg
+differs f lib.Ieee.nan y g h = elim g [ ]
+differs f (lib.Ieee.inf _) y g h = elim g [ ]
+differs f (fin s m e) lib.Ieee.nan g h = elim h [ ]
+differs f (fin s m e) (lib.Ieee.inf _) g h = elim h [ ]
 differs f (fin s m e) (fin t n d) g h =
     subst (λ (z : ℤ). Summed f (sum f s (m * up e * down d) (not t) (n * up d * down e) (down e * down d)) z (down e * down d))
     (ap (λ (z : ℤ). signed s (m * up e * down d) +ℤ z) (signed_not t (n * up d * down e) ∙ ap neg_ℤ (signed_mul t (n * up d) (down e)))
@@ -162,6 +166,8 @@ like false = refl
 pub exact_4096 : (a : Float) {k : ℕ} → Finite a → denominator a ≡ 2 ^ k → k ≤ 1074 → nat_abs (numerator a) < 2 ^ 53
     → Equals (mul binary64 a (fin false 1 (pos 12))) (pos 4096 *ℤ numerator a) (denominator a)
 unfolding mul
+exact_4096 lib.Ieee.nan {k = k} f d near small = elim f [ ]
+exact_4096 (lib.Ieee.inf _) {k = k} f d near small = elim f [ ]
 exact_4096 (fin s m e) {k} f d near small =
     let M = m * up e in
     let n = M * (1 * 2 ^ 12) in
@@ -202,12 +208,16 @@ zero_shape s (pos k) h = record { places = 0; few = omega arith; is = refl }
 zero_shape s (negsuc k) h = absurd (not_one k (eqb→eq (1 * 2 ^ suc k) 1 h))
 
 pub shape : (x : Float) → Finite x → T (fits binary64 x) → Shape x
+shape lib.Ieee.nan f h = elim f [ ]
+shape (lib.Ieee.inf _) f h = elim f [ ]
 shape (fin s zero e) f h = zero_shape s e h
 shape (fin s (suc m) (pos k)) f h = record { places = 0; few = omega arith; is = refl }
 shape (fin s (suc m) (negsuc k)) f h = record { places = suc k; few = under (suc k) 1074 (digits s m (negsuc k) h).1; is = refl }
 
 -- at most 53 digits, for a number of at most 2^52
 pub few_digits : (x : Float) → Finite x → T (fits binary64 x) → nat_abs (numerator x) ≤ 2 ^ 52 * denominator x → nat_abs (numerator x) < 2 ^ 53
+few_digits lib.Ieee.nan f h b = elim f [ ]
+few_digits (lib.Ieee.inf _) f h b = elim f [ ]
 few_digits (fin s zero e) f h b = rw (signed-size s (zero * up e)) (omega arith)
 few_digits (fin s (suc m) (pos k)) f h b = omega arith
 few_digits (fin s (suc m) (negsuc k)) f h b = rw (signed-size s (suc m * 1), mul-one) (digits s m (negsuc k) h).0

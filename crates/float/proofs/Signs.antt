@@ -51,10 +51,12 @@ same : (a b : ℕ) → a ≡ b → T (eqb a b)
 same a b e = subst (λ (n : ℕ). T (eqb a n)) e (eqb_refl a)
 
 both : (b c d : Bool) → T b → T d → T (b && (c || d))
+both false c d h k = elim h [ ]
 both true true d h k = tt
 both true false d h k = k
 
 first : (b : Bool) → T b → T (b && true)
+first false h = elim h [ ]
 first true h = tt
 
 level_holds : (s : Bool) (a : ℕ) (t : Bool) (b : ℕ) → signed s a ≡ signed t b → T (level s a t b)

@@ -48,26 +48,50 @@ rescaled {x} {z} {w} {c} {d} p h e =
 
 less : (x y : Float) → Finite x → Finite y → lt x y ≡ true → numerator x *ℤ pos (denominator y) ≺ numerator y *ℤ pos (denominator x)
 unfolding lt
+less nan y f g h = elim f [ ]
+less (inf _) y f g h = elim f [ ]
+less (fin s m e) nan f g h = elim g [ ]
+less (fin s m e) (inf _) f g h = elim g [ ]
 less (fin s m e) (fin t n d) f g h = rw (← signed_mul s (m * up e) (down d), ← signed_mul t (n * up d) (down e)) (sign_less s (m * up e * down d) t (n * up d * down e) h)
 
 not_less : (x y : Float) → Finite x → Finite y → lt x y ≡ false → numerator y *ℤ pos (denominator x) ≼ numerator x *ℤ pos (denominator y)
 unfolding lt
+not_less nan y f g h = elim f [ ]
+not_less (inf _) y f g h = elim f [ ]
+not_less (fin s m e) nan f g h = elim g [ ]
+not_less (fin s m e) (inf _) f g h = elim g [ ]
 not_less (fin s m e) (fin t n d) f g h = rw (← signed_mul s (m * up e) (down d), ← signed_mul t (n * up d) (down e)) (sign_not_less s (m * up e * down d) t (n * up d * down e) h)
 
 most : (x y : Float) → Finite x → Finite y → le x y ≡ true → numerator x *ℤ pos (denominator y) ≼ numerator y *ℤ pos (denominator x)
 unfolding le lt eq
+most nan y f g h = elim f [ ]
+most (inf _) y f g h = elim f [ ]
+most (fin s m e) nan f g h = elim g [ ]
+most (fin s m e) (inf _) f g h = elim g [ ]
 most (fin s m e) (fin t n d) f g h = rw (← signed_mul s (m * up e) (down d), ← signed_mul t (n * up d) (down e)) (sign_most s (m * up e * down d) t (n * up d * down e) h)
 
 above : (x y : Float) → Finite x → Finite y → le x y ≡ false → numerator y *ℤ pos (denominator x) ≺ numerator x *ℤ pos (denominator y)
 unfolding le lt eq
+above nan y f g h = elim f [ ]
+above (inf _) y f g h = elim f [ ]
+above (fin s m e) nan f g h = elim g [ ]
+above (fin s m e) (inf _) f g h = elim g [ ]
 above (fin s m e) (fin t n d) f g h = rw (← signed_mul s (m * up e) (down d), ← signed_mul t (n * up d) (down e)) (sign_above s (m * up e * down d) t (n * up d * down e) h)
 
 equal : (x y : Float) → Finite x → Finite y → eq x y ≡ true → numerator x *ℤ pos (denominator y) ≡ numerator y *ℤ pos (denominator x)
 unfolding eq
+equal nan y f g h = elim f [ ]
+equal (inf _) y f g h = elim f [ ]
+equal (fin s m e) nan f g h = elim g [ ]
+equal (fin s m e) (inf _) f g h = elim g [ ]
 equal (fin s m e) (fin t n d) f g h = rw (← signed_mul s (m * up e) (down d), ← signed_mul t (n * up d) (down e)) (sign_equal s (m * up e * down d) t (n * up d * down e) h)
 
 unequal : (x y : Float) → Finite x → Finite y → eq x y ≡ false → numerator x *ℤ pos (denominator y) ≡ numerator y *ℤ pos (denominator x) → ⊥
 unfolding eq
+unequal nan y f g h = elim f [ ]
+unequal (inf _) y f g h = elim f [ ]
+unequal (fin s m e) nan f g h = elim g [ ]
+unequal (fin s m e) (inf _) f g h = elim g [ ]
 unequal (fin s m e) (fin t n d) f g h = rw (← signed_mul s (m * up e) (down d), ← signed_mul t (n * up d) (down e)) (sign_unequal s (m * up e * down d) t (n * up d * down e) h)
 
 -- the same of any fractions that they are

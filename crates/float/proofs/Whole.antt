@@ -76,6 +76,8 @@ uncut false m e b = let q : m * up e / down e ≡ min (m * up e / down e) (2 ^ 6
 uncut true m e b = let q : m * up e / down e ≡ min (m * up e / down e) (2 ^ 63) = omega arith in ap (λ (n : ℕ). neg_ℤ (pos n)) q
 
 pub truncated : (x : Float) → Finite x → nat_abs (numerator x) ≤ 67108864 * denominator x → Cut 67108864 (numerator x) (denominator x) (to_signed 63 x)
+truncated lib.Ieee.nan f h = elim f [ ]
+truncated (lib.Ieee.inf _) f h = elim f [ ]
 truncated (fin s m e) f h =
     let M = m * up e in
     let D = down e in

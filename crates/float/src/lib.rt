@@ -1,4 +1,6 @@
 // Floats as the numbers that they are: the whole number nearest to one.
+#![tactic(auto)]
+
 ghost use Rattle.std.specs.Prelude.{◌≡◌};
 ghost use Rattle.float.specs.Value.{numerator, denominator};
 ghost use Rattle.float.specs.Nearest.{nearest_whole, Within};

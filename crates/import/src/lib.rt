@@ -1,5 +1,7 @@
 // Entries of A and B straight from the identification tool: 64-bit floats as whole numbers of
 // 4,096ths.
+#![tactic(auto)]
+
 ghost use Rattle.std.specs.Prelude.{◌≡◌};
 ghost use Rattle.import.specs.Entries.{imported, Exact};
 
@@ -7,7 +9,7 @@ use float::nearest;
 
 // What an entry is imported as: a whole number, or one with what is left of 4096 times the entry; or
 // why it is refused, 16 or 17.
-#[derive(Drop)]
+#[derive(Clone, Copy)]
 pub enum Entry {
     Whole(i64),
     Near(i64, f64),

@@ -1,4 +1,6 @@
 // Imports the entries and models on standard input and writes what they are imported as.
+#![tactic(auto)]
+
 use cases::floats::{bits, float_at};
 use cases::{Case, refused, size_at};
 use import::{Entry, import_entry};

@@ -108,7 +108,7 @@ abbrev pub back : ℤ → ℤ
 back z = to_z w64 (of_z w64 z)
 
 pub back_is : (z : ℤ) {B : ℕ} → nat_abs z ≤ B → B < 2 ^ 63 → back z ≡ z
-back_is z h k = to_z-of_z (fits_by z h k)
+back_is z h k = to_z-of_z {w = w64} (fits_by z h k)
 
 pub element_is : {B : ℕ} {l : List ℤ} → Bounded B l → B < 2 ^ 63 → (p : ℕ) → back (at l p) ≡ at l p
 element_is {l = l} b h p = back_is (at l p) (b.each p) h

@@ -1,4 +1,6 @@
 // The functions of `integer` at their edges. The expected output was worked out apart.
+#![tactic(auto)]
+
 use integer::bytes::{i16_at, i32_at, u8_at, u16_at, u32_at};
 use integer::number::{limit, quotient, quotient_up, root_up, size, square_quotient};
 

@@ -1,4 +1,6 @@
 // Judging a plan with multipliers, and multipliers for impossibility.
+#![tactic(auto)]
+
 ghost use Rattle.std.specs.Prelude.{◌≡◌};
 ghost use Rattle.integer.specs.Places.{Bounded};
 ghost use Rattle.commands.specs.Ranges.{most_number, most_multiplier};
@@ -22,13 +24,13 @@ use primal::terms::{Terms, terms_of};
 use tape::refusal::{Refusal, Span};
 use tape::{Answer, Tape, read};
 
-#[derive(Drop)]
+#[derive(Clone, Copy)]
 pub enum Judged {
     Gap(i64),
     Refused(Refusal),
 }
 
-#[derive(Drop)]
+#[derive(Clone, Copy)]
 pub enum Shown {
     Shown,
     Refused(Refusal),

@@ -1,4 +1,6 @@
 // Judges the cases on standard input and writes the answers, or the ranges of the first duties.
+#![tactic(auto)]
+
 use cases::{Case, refused};
 use judge::{Judged, Shown, judge_multipliers, judge_plan};
 use ranges::range::Range;

@@ -36,8 +36,8 @@ pub record FoundAt (count : ℕ) (f : ℕ → Check) (why : Refusal) : Type 0 wh
 pub first_found : {why : Refusal} (count : ℕ) (f : ℕ → Check) → first count f ≡ Failed why → FoundAt count f why
 unfolding first
 first_found zero f e = absurd (no_failure e)
-first_found (suc count) f e =
-    ⊎_elim (λ l. let r = first_found count f l in record { place = r.place; below = omega (arith, r.below); before = r.before; failed = r.failed })
+first_found {why} (suc count) f e =
+    ⊎_elim (λ (l : first count f ≡ Failed why). let r : FoundAt count f why = first_found count f l in record { place = r.place; below = omega (arith, r.below); before = r.before; failed = r.failed })
     (λ r. record { place = count; below = omega arith; before = r.0; failed = r.1 })
     (either_failed (first count f) (f count) e)
 

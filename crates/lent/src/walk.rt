@@ -17,20 +17,20 @@ use tape::Tape;
 use tape::refusal::{Fault, Refusal};
 
 // The tests of a plan's number: 10, against the model, and 11, against its limits.
-#[derive(Drop)]
+#[derive(Clone, Copy)]
 pub enum Test {
     Model,
     Limits,
 }
 
-#[derive(Drop)]
+#[derive(Clone, Copy)]
 pub enum Check {
     Passed,
     Failed(Refusal),
 }
 
 // The plan's numbers at padded places, where the check passed.
-#[derive(Drop)]
+#[derive(Clone, Copy)]
 pub struct Walk {
     pub check: Check,
     pub plan: [i64; 120],

@@ -62,7 +62,7 @@ fn state_numbers(
 }
 
 // What the inputs cost, and what the states cost.
-#[derive(Drop)]
+#[derive(Clone, Copy)]
 pub struct Costs {
     pub inputs: i64,
     pub states: i64,

@@ -1,4 +1,6 @@
 // Test 7 by the word: the required places and the marks, from the first column on, 64 to a word.
+#![tactic(auto)]
+
 ghost use Rattle.std.specs.Prelude.{◌+◌, ◌^◌, ◌<◌, ◌≤◌, ◌||◌, ◌≡◌};
 ghost use Rattle.commands.specs.Marks.{column_place, marked};
 ghost use Rattle.commands.specs.Required.{among, curved, required};

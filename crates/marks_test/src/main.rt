@@ -1,4 +1,6 @@
 // Counts what is missing in the words and in the marks on standard input.
+#![tactic(auto)]
+
 ghost use Rattle.std.specs.Prelude.{◌+◌, ◌^◌, ◌<◌};
 
 use cases::{Case, size_at};

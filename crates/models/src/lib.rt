@@ -1,4 +1,6 @@
 // A whole model: each entry tested, then each written as a command of the tape.
+#![tactic(auto)]
+
 ghost use Rattle.std.specs.Prelude.{◌+◌, ◌*◌, ◌<◌, ◌≤◌, ◌≡◌, ◌∷◌, ◌++◌, length, nat_abs};
 ghost use Rattle.integer.specs.Encoding.{signed_bytes};
 ghost use Rattle.import.specs.Entries.{imported};
@@ -9,7 +11,7 @@ use import::{Entry, import_entry};
 use integer::bytes::{twos_complement, write_unsigned};
 use tape::refusal::Refusal;
 
-#[derive(Drop)]
+#[derive(Clone, Copy)]
 pub enum Model {
     Written,
     Refused(Refusal),

@@ -1,4 +1,6 @@
 // A tape and a refusal as numbers, for other languages.
+#![tactic(auto)]
+
 ghost use Rattle.std.specs.Prelude.{◌+◌, ◌≤◌, ◌≡◌, ◌++◌, map, length, take};
 ghost use Rattle.commands.specs.Ranges.{most_rounds};
 ghost use Rattle.tape.specs.Legal.{Legal};

@@ -19,7 +19,7 @@ use primal::cost::cost_of;
 use primal::model::{from_states, state_of};
 
 // Whether a state is outside its limits; if none is, what the states cost.
-#[derive(Drop)]
+#[derive(Clone, Copy)]
 pub struct Followed {
     pub dropped: bool,
     pub cost: i64,

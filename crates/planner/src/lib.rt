@@ -1,6 +1,8 @@
 // The planner for other languages: the calls of document 01, and those that requests of document 02
 // added, as C functions. Each returns 0 where it has a result, and else the refusal's number + 256
 // times what it carries.
+#![tactic(auto)]
+
 mod band;
 mod ends;
 mod imports;

@@ -9,7 +9,7 @@ ghost use Rattle.primal.specs.Terms.{placed, TermsOf};
 use tape::{Curves, Tape};
 
 // P, lo, hi and r of every plan number. Beyond the sizes all four are 0.
-#[derive(Drop)]
+#[derive(Clone, Copy)]
 pub struct Terms {
     pub penalty: [i64; 120],
     pub low: [i64; 120],

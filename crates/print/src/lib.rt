@@ -1,4 +1,5 @@
 // Lines of words and numbers on standard output, for the test programs.
+#![tactic(auto)]
 
 // Writes a line's first word.
 pub fn word(text: &[u8]) {

@@ -1,4 +1,6 @@
 // How near the first duties of every plan must be that costs no more than an accepted one.
+#![tactic(auto)]
+
 pub mod range;
 
 ghost use Rattle.std.specs.Prelude.{◌*◌, ◌<◌, ◌≡◌, false, length, pos};
@@ -22,7 +24,7 @@ use tape::refusal::Refusal;
 use tape::{Tape, read};
 
 // The ranges of u(0). Those beyond m are 0 to 0.
-#[derive(Drop)]
+#[derive(Clone, Copy)]
 pub struct Ranges {
     pub u0: Range,
     pub u1: Range,
@@ -30,7 +32,7 @@ pub struct Ranges {
     pub u3: Range,
 }
 
-#[derive(Drop)]
+#[derive(Clone, Copy)]
 pub enum Ranging {
     Ranges(Ranges),
     Refused(Refusal),

@@ -11,7 +11,7 @@ use dual::pieces::tilt_at;
 use integer::number::{limit, quotient, quotient_up, root_up};
 
 // The numbers from `low` to `high`, both included.
-#[derive(Drop)]
+#[derive(Clone, Copy)]
 pub struct Range {
     pub low: i64,
     pub high: i64,

@@ -1,4 +1,6 @@
 // A tape solved, and its firing record written for both readers.
+#![tactic(auto)]
+
 ghost use Rattle.std.specs.Prelude.{◌≡◌, length};
 ghost use Rattle.tape.specs.Reading.{reading};
 ghost use Rattle.tape.specs.Refusals.{row};
@@ -17,7 +19,7 @@ use tape::refusal::{Carried, Refusal, carries};
 use tape::{Answer, read};
 
 // The kind of the record that was written, or why none was.
-#[derive(Drop)]
+#[derive(Clone, Copy)]
 pub enum Recorded {
     Proved,
     Impossible,

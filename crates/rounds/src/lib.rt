@@ -1,5 +1,7 @@
 // The rounds of a solve. Each takes document 01's four steps. Step 4 goes before step 3: its residuals
 // bound the floor, and only where that bound leaves an answer open is the floor itself worked out.
+#![tactic(auto)]
+
 mod verdict;
 
 ghost use Rattle.std.specs.Prelude.{◌≡◌, true, replicate, pos};
@@ -34,7 +36,7 @@ use steps::verdict::Verdict;
 use tape::Tape;
 
 // The multipliers y of a round, and those before them.
-#[derive(Drop)]
+#[derive(Clone, Copy)]
 pub struct RoundState {
     pub current: [i64; 72],
     pub previous: [i64; 72],
@@ -63,7 +65,7 @@ impl RoundState {
 }
 
 // How the rounds ended, with the rounds entered, the answering one included.
-#[derive(Drop)]
+#[derive(Clone, Copy)]
 pub enum Ended {
     Proved(usize, i64),
     Impossible(usize),
@@ -71,7 +73,7 @@ pub enum Ended {
 }
 
 // The plan where the end is 'proved', and the multipliers where it is 'proved' or 'impossible'.
-#[derive(Drop)]
+#[derive(Clone, Copy)]
 pub struct Outcome {
     pub ended: Ended,
     pub plan: [i64; 120],

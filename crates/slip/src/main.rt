@@ -1,5 +1,7 @@
 // The printing program: reads a tape from standard input and prints its firing slip. Where it cannot
 // read or write it says so on standard error, since the language has no exit status.
+#![tactic(auto)]
+
 use libc::{STDIN_FILENO, STDOUT_FILENO};
 use slip_text::tape_slip;
 use tape::DECIDING_BYTES;

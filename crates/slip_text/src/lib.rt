@@ -1,4 +1,6 @@
 // The text of the firing slip.
+#![tactic(auto)]
+
 mod lines;
 mod text;
 

@@ -6,7 +6,7 @@ ghost use Rattle.slip_text.specs.Written.{Holds, Appended};
 use integer::number::size;
 
 // The first bytes, as many as the length, are the text; the others are 0.
-#[derive(Drop)]
+#[derive(Clone, Copy)]
 pub struct Text {
     pub bytes: [u8; 360],
     pub length: usize,

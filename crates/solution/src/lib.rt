@@ -1,4 +1,6 @@
 // A tape read and solved: the answer, with the tape's numbers, the plan and the multipliers.
+#![tactic(auto)]
+
 ghost use Rattle.std.specs.Prelude.{◌≡◌, take};
 ghost use Rattle.solver.specs.Demand.{Upheld};
 ghost use Rattle.solution.specs.Solution.{plan_numbers, multiplier_numbers, solution_of};
@@ -8,7 +10,7 @@ use tape::{Tape, read};
 
 // A tape's numbers, with what its solve answers and leaves. The first N(n + m) numbers of the plan
 // and the first N × n multipliers count; those behind them are 0.
-#[derive(Drop)]
+#[derive(Clone, Copy)]
 pub struct Solution {
     pub answer: Solved,
     pub tape: Tape,

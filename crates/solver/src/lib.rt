@@ -1,4 +1,6 @@
 // Solving: the rounds, and what they leave in the lent slices.
+#![tactic(auto)]
+
 mod write;
 
 ghost use Rattle.std.specs.Prelude.{◌+◌, ◌*◌, ◌<◌, ◌≤◌, ◌≡◌, length};
@@ -19,7 +21,7 @@ use tape::refusal::Refusal;
 use tape::{Answer, Tape, read};
 
 // u(0), the first step's heater duties; those beyond m are 0.
-#[derive(Drop)]
+#[derive(Clone, Copy)]
 pub struct Duties {
     pub u0: i32,
     pub u1: i32,
@@ -28,7 +30,7 @@ pub struct Duties {
 }
 
 // Proved: the rounds entered, the gap and u(0). Impossible: the rounds entered.
-#[derive(Drop)]
+#[derive(Clone, Copy)]
 pub enum Solved {
     Proved(usize, i64, Duties),
     Impossible(usize),

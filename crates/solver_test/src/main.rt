@@ -1,4 +1,6 @@
 // Solves the cases on standard input and writes the answers, and what the lent slices hold then.
+#![tactic(auto)]
+
 use cases::{Case, refused};
 use solver::{Duties, Solved, solve};
 

@@ -4,7 +4,7 @@ ghost use Rattle.std.specs.Int.Signed.{lt_z};
 ghost use Rattle.steps.specs.declared.verdict.Verdict.TheVariants as verdicts;
 ghost use Rattle.steps.specs.Held.{verdict_by};
 
-#[derive(Drop)]
+#[derive(Clone, Copy)]
 pub enum Verdict {
     Proved(i64),
     Impossible,

@@ -1,4 +1,6 @@
 // The tape: its numbers, its refusals, and `read`.
+#![tactic(auto)]
+
 mod reader;
 pub mod refusal;
 
@@ -13,7 +15,7 @@ pub const DECIDING_BYTES: usize = 1072;
 
 // The references of command 31 by column and step, at 12 * column + step: 0 where none is given; and
 // a mark where one is.
-#[derive(Drop)]
+#[derive(Clone, Copy)]
 pub struct Curves {
     pub reference: [i64; 120],
     pub given: [bool; 120],
@@ -22,7 +24,7 @@ pub struct Curves {
 // The numbers of a tape, 0 where none is given and beyond the sizes. A is row by row at a stride of
 // 6, B at a stride of 4. Columns are the n states, then the m inputs. Command 51 gives
 // the last three where `banded`, else command 50.
-#[derive(Drop)]
+#[derive(Clone, Copy)]
 pub struct Tape {
     pub n: usize,
     pub m: usize,
@@ -42,14 +44,14 @@ pub struct Tape {
     pub wanted: i64,
 }
 
-#[derive(Drop)]
+#[derive(Clone, Copy)]
 pub enum Answer {
     Accepted,
     Refused(Refusal),
 }
 
 // What reading a tape gives. A refused tape's numbers are all 0.
-#[derive(Drop)]
+#[derive(Clone, Copy)]
 pub struct Reading {
     pub answer: Answer,
     pub tape: Tape,

@@ -14,7 +14,7 @@ use commands::{Command, Entry, bytes_of, decode, is_beyond, is_wrong, is_wrong_s
 use marks::count_missing;
 
 // What a command leads to where its tests are passed, and the refusal where one is not.
-#[derive(Drop)]
+#[derive(Clone, Copy)]
 pub enum Step {
     Sized(usize, usize, usize),
     Stored(Entry),
@@ -24,7 +24,7 @@ pub enum Step {
 
 // The reading so far, but for the arrays: the next command's offset, the sizes, and the numbers of
 // command 50 or 51.
-#[derive(Drop)]
+#[derive(Clone, Copy)]
 pub struct Head {
     pub at: usize,
     pub n: usize,

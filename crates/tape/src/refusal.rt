@@ -5,7 +5,7 @@ ghost use Rattle.tape.specs.Refusals.{row, figure};
 
 // Where a number of a plan fails its test: its step and its column, the number found, and what was due,
 // the model's number or the limit that it passed. x(k+1) is of step k; columns are states, then inputs.
-#[derive(Drop)]
+#[derive(Clone, Copy)]
 pub struct Fault {
     pub step: usize,
     pub column: usize,
@@ -14,13 +14,13 @@ pub struct Fault {
 }
 
 // The cost of a plan and the floor of multipliers: the gap is what lies between them.
-#[derive(Drop)]
+#[derive(Clone, Copy)]
 pub struct Span {
     pub cost: i64,
     pub floor: i64,
 }
 
-#[derive(Drop)]
+#[derive(Clone, Copy)]
 pub enum Refusal {
     Cut(usize),
     Unknown(usize),
@@ -71,7 +71,7 @@ pub fn number(refusal: Refusal) -> usize
 
 // What a refusal carries: the place where it was found, which is an offset of the tape or the count of
 // an entry; nothing; where a plan fails a test; cost and floor; or the rounds R.
-#[derive(Drop)]
+#[derive(Clone, Copy)]
 pub enum Carried {
     Place(usize),
     Nothing,

@@ -1,4 +1,6 @@
 // Reads the tapes on standard input and writes what reading each of them gives.
+#![tactic(auto)]
+
 use cases::{Case, refused};
 use tape::{Answer, Tape, read};
 

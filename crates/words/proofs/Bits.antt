@@ -4,7 +4,7 @@ use mathlib.Core.Path.{◌≡◌, refl, sym, ap, ap₂, ◌∙◌}
 use mathlib.Core.Bool.{Bool, true, false, cond, not, ◌&&◌, ◌||◌}
 use mathlib.Core.List.{List}
 use mathlib.Core.Logic.{⊎_elim}
-use native.Mathlib.Nat.{div-eq_of_lt, mod-lt, pow-suc, one_mul, sub-zero, add_comm, add-mul, lt_of_lt_of_le}
+use native.Mathlib.Nat.{div-eq_of_lt, mod-lt, pow-suc, one-mul, sub-zero, add_comm, add-mul, lt_of_lt_of_le}
 use native.Mathlib.Numerals.{add-one}
 use native.Mathlib.Omega.{arith}
 use lib.Dec.{eqb, ltb, lit<}
@@ -130,7 +130,7 @@ bit_under i b =
 
 bit-same : (k : ℕ) → bit (2 ^ k) k ≡ true
 unfolding bit
-bit-same k = ap (λ (d : ℕ). eqb (d % 2) 1) (ap (λ (d : ℕ). d / 2 ^ k) (sym (one_mul (2 ^ k))) ∙ shl-shr 1 k)
+bit-same k = ap (λ (d : ℕ). eqb (d % 2) 1) (ap (λ (d : ℕ). d / 2 ^ k) (sym (one-mul (2 ^ k))) ∙ shl-shr 1 k)
 
 pub bit_one : (k b : ℕ) → bit (2 ^ k) b ≡ eqb b k
 bit_one k b =
@@ -146,7 +146,7 @@ bit_one k b =
 
 -- 1 shifted by less than the width
 pub shifted_one : (w k : ℕ) → k < w → 1 * 2 ^ k % 2 ^ w ≡ 2 ^ k
-shifted_one w k h = shl_exact 1 k w (lit< tt) (omega arith) ∙ one_mul (2 ^ k)
+shifted_one w k h = shl_exact 1 k w (lit< tt) (omega arith) ∙ one-mul (2 ^ k)
 
 -- ---- How many bits are set
 

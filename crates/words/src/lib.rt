@@ -1,5 +1,7 @@
 // Marks by the word: bit b of a 64-bit word, the lowest first, stands for the place b behind the
 // word's first one.
+#![tactic(auto)]
+
 ghost use Rattle.std.specs.Prelude.{◌+◌, ◌*◌, ◌^◌, ◌<◌, ◌≤◌, false, not, ◌&&◌, ◌≡◌, ltb, get_or};
 ghost use Rattle.integer.specs.Tests.{count};
 ghost use Rattle.words.specs.Words.{Holds, bit, bit_of, word_count};

@@ -1,0 +1,525 @@
+#!/usr/bin/env python3
+"""Turns the Proof.antt of each function of a crate into Invariants.antt and Answers.antt.
+
+usage: answers.py NAMES CRATE OLD [FUNCTION..]
+
+NAMES is the names.json that `rt check --generated DIR --old-names` writes for the crate, CRATE its folder, OLD the
+same folder as it was before port.py, whose names of steps are the older kit's. A goal that the search answers is
+left out. What it writes is a beginning: `rt check` says what is left.
+"""
+
+import glob
+import json
+import os
+import re
+import sys
+
+TOKEN = re.compile(r"[^\s(){}.;,\[\]]+|[(){}.;,\[\]]|\s+")
+DROPPED = re.compile(r"^use (borrow\.Author\.Rules\.|Rattle\.[\w.]+\.(Tie|Statement)\b)")
+
+
+def norm(name):
+    return re.sub(r"[-_]+", "-", name)
+
+
+def of_text(text):
+    return TOKEN.findall(text)
+
+
+class Function:
+    def __init__(self, it):
+        self.places = {}
+        for (old, parent, field, callee, _), new in zip(it["places"], it["places_by_name"]):
+            self.places[norm(old)] = dict(parent=parent and norm(parent), old=norm(field[0]), field=field[1], new=new, callee=callee)
+        self.needs = {}
+        for (old, new), (place, _) in zip(it["needs"], it["asked_at"]):
+            self.needs[norm(old)] = (new, norm(place))
+        self.loops = it["loops"]
+        self.changed = it["changed"]
+        self.asked = {norm(k): v for k, v in it["asked"].items()}
+        self.fields = {}
+        for p in self.places.values():
+            if p["old"]:
+                self.fields.setdefault(p["old"], set()).add(p["field"])
+
+    def need(self, name):
+        """The new name and the place of a goal, by what stood after `Need-`."""
+        n = norm(name)
+        for head in ("", "overflow-", "nonzero-", "offset-bounds-", "bounds-"):
+            if n.startswith(head) and n[len(head):] in self.needs:
+                return self.needs[n[len(head):]]
+        return None, None
+
+    def step(self, place, befores, field):
+        """The new name of a step's field, read after so many `before` from a place."""
+        if not isinstance(place, str):
+            return (sorted(self.fields[norm(field)])[0], None) if norm(field) in self.fields and befores else (None, None)
+        for _ in range(befores):
+            place = self.places[place]["parent"] if place in self.places else None
+        for f in (norm(field), norm(field).removesuffix("-lem")):
+            if place in self.places and self.places[place]["old"] == f:
+                return self.places[place]["field"], place
+            if f in self.fields:
+                return sorted(self.fields[f])[0], None
+        return None, place
+
+    def callee(self, field):
+        return next((p["callee"] for p in self.places.values() if p["field"] == field and p["callee"]), None)
+
+
+def match(t, i):
+    d = 0
+    while i < len(t):
+        if t.startswith("//", i):
+            i = t.index("\n", i)
+        d += (t[i] == "{") - (t[i] == "}")
+        i += 1
+        if d == 0:
+            return i
+    return i
+
+
+def contracts(root):
+    """The names of each function's clauses, in their order."""
+    out = {}
+    for f in glob.glob(f"{root}/crates/*/src/**/*.rt", recursive=True):
+        crate = f.split("/crates/")[1].split("/")[0]
+        mod = os.path.relpath(f, f"{root}/crates/{crate}/src")[:-3].replace("/", "::")
+        mod = "" if mod in ("lib", "main") else mod + "::"
+        t = open(f, encoding="utf-8").read()
+        impls = [(m.start(), match(t, m.end() - 1), m[1]) for m in re.finditer(r"^impl (\w+) \{", t, re.M)]
+        for m in re.finditer(r"\bfn (\w+)", t):
+            owner = next((n + "::" for a, b, n in impls if a < m.start() < b), "")
+            j = t.index("(", m.end())
+            d = 0
+            while True:
+                d += (t[j] == "(") - (t[j] == ")")
+                j += 1
+                if d == 0:
+                    break
+            said = {"requires": [], "ensures": []}
+            while True:
+                k = re.compile(r"\b(requires|ensures)\b *(\w*)|\{|;").search(t, j)
+                if not k or not k[1]:
+                    break
+                said[k[1]].append(k[2])
+                j = match(t, t.index("{", k.end()))
+            out[f"{crate}::{mod}{owner}{m[1]}"] = said
+    return out
+
+
+def by_name(names, path):
+    """A path of digits into clauses, with the clause's name in front."""
+    if len(names) < 2 or not path or path[0] not in ("0", "1"):
+        return path
+    k, i = 0, 0
+    while k < len(names) - 1 and i < len(path) and path[i] == "1":
+        k, i = k + 1, i + 1
+    if k < len(names) - 1:
+        if i >= len(path) or path[i] != "0":
+            return path
+        i += 1
+    return [names[k]] + path[i:]
+
+
+def split_pair(term):
+    """The parts of a term in parentheses, at its commas."""
+    if not (term.startswith("(") and term.endswith(")")):
+        return None
+    d, parts, now = 0, [], ""
+    for i, c in enumerate(term):
+        if c in "({[":
+            d += 1
+            if d == 1:
+                continue
+        if c in ")}]":
+            d -= 1
+            if d == 0 and i < len(term) - 1:
+                return None
+            if d == 0:
+                break
+        if c == "," and d == 1:
+            parts.append(now)
+            now = ""
+        else:
+            now += c
+    if now.strip():
+        parts.append(now)
+    return [p.strip() for p in parts]
+
+
+def as_record(term, names):
+    """A tuple of clauses as a record of them."""
+    m = re.match(r"((?:.|\n)*\bin\s)((?:.|\n)*)$", term)
+    lets, last = ("", term)
+    # the last `in` outside all brackets
+    d, cut = 0, 0
+    for m in re.finditer(r"[(){}\[\]]|\bin\b", term):
+        if m[0] in "({[":
+            d += 1
+        elif m[0] in ")}]":
+            d -= 1
+        elif d == 0:
+            cut = m.end()
+    lets, last = term[:cut], term[cut:].strip()
+    m = re.match(r"^(rw (?:\([^()]*(?:\([^()]*\)[^()]*)*\)|[\w.-]+) )(\((?:.|\n)*\))$", last)
+    wrap = ""
+    parts = split_pair(last)
+    while parts is not None and len(parts) < len(names):
+        more = split_pair(parts[-1])
+        if more is None:
+            return None
+        parts = parts[:-1] + more
+    if parts is None:
+        return None
+    if len(parts) > len(names):
+        parts = parts[: len(names) - 1] + ["(" + ", ".join(parts[len(names) - 1 :]) + ")"]
+    return lets + "\n    record {\n" + "\n".join(f"      {n} = {p};" for n, p in zip(names, parts)) + "\n    }"
+
+
+def blocks(text):
+    out, now = [], []
+    for line in text.split("\n"):
+        if line.strip():
+            now.append(line)
+        elif now:
+            out.append(now)
+            now = []
+    if now:
+        out.append(now)
+    return out
+
+
+def restored(text, old):
+    """The ported text with the older kit's own spelling of what stands behind a dot."""
+    a = [t for t in of_text(text)]
+    b = [t for t in of_text(old) if not t.isspace() and t != "."]
+    words = [i for i, t in enumerate(a) if not t.isspace() and t != "."]
+    marks = set("(){};,[]")
+    if len(words) != len(b):
+        # Line by line, where only some differ.
+        return None
+    for i, o in zip(words, b):
+        if i and a[i - 1] == "." and a[i] not in marks and o not in marks:
+            if a[i].endswith("_lem") or (o == "fits" and a[i] == "ranges"):
+                a[i] = o if o != "fits" else "fits"
+    return "".join(a)
+
+
+def convert(path, it, old_path, crate, function, every):
+    text = open(path, encoding="utf-8").read()
+    if os.path.exists(old_path):
+        new_lines, old_lines = text.split("\n"), open(old_path, encoding="utf-8").read().split("\n")
+        whole = restored(text, "\n".join(old_lines))
+        if whole is not None:
+            text = whole
+    fn = Function(it)
+    own = every.get(f"{crate}::{function.replace('/', '::')}", {"requires": [], "ensures": []})
+    name = function.replace("/", ".")
+    head, invariants, answers, left = [], [], [], []
+    names = {}
+    returned = {}
+    helper_place = {}
+
+    def typed(sig):
+        """Places in a signature, by the parameter they are given."""
+        return re.findall(r"\((\w+) : tie\.([\w-]+)", sig)
+
+    def place_type(m):
+        n = norm(m[1])
+        if n in fn.places:
+            return "goal." + fn.places[n]["new"]
+        if n.startswith("Need-"):
+            new, _ = fn.need(m[1][5:])
+            if new:
+                return "goal." + new
+        left.append("no place " + m[1])
+        return m[0]
+
+    def retype(text):
+        text = re.sub(r"tie\.([\w-]+'?)((?: (?:invariant-loop|decreases-loop)[\w-]*)*)", lambda m: place_type(m), text)
+        return text
+
+    def walk(text, places):
+        """Writes the paths of a term anew; `places` says where each variable stands."""
+        toks = of_text(text)
+        out, i = [], 0
+        stack = []
+        while i < len(toks):
+            t = toks[i]
+            if t == "(":
+                stack.append(len(out))
+                out.append(t)
+                i += 1
+                continue
+            base = None
+            if t == ")":
+                start = stack.pop() if stack else 0
+                out.append(t)
+                i += 1
+                inside = "".join(out[start + 1 : -1]).split()
+                base = returned.get(inside[0]) if inside else None
+                known = inside and inside[0] in returned
+                if not (i < len(toks) and toks[i] == "."):
+                    continue
+            elif re.match(r"[a-zA-Z]", t) and i + 1 < len(toks) and toks[i + 1] == "." and not (i and toks[i - 1] == "."):
+                base = places.get(t)
+                out.append(t)
+                i += 1
+            else:
+                if t == "let" and i + 2 < len(toks):
+                    # let NAME = PATH in
+                    m = re.match(r"let (\S+) = ([\w.\s()-]+?) in\b", "".join(toks[i : i + 60]))
+                    if m:
+                        p = path_place(m[2], places)
+                        if p is None:
+                            p = said_by(m[2], places)
+                        places[m[1]] = p
+                out.append(t)
+                i += 1
+                continue
+            # a path behind base
+            befores, parts = 0, []
+            while i + 1 < len(toks) and toks[i] == ".":
+                parts.append(toks[i + 1])
+                i += 2
+            rest = list(parts)
+            while rest and rest[0] == "before":
+                befores += 1
+                rest.pop(0)
+            new = []
+            if rest:
+                f = rest[0]
+                step, place = fn.step(base, befores, f)
+                if f == "ranges" and befores == 0 and base not in ("Start", "Untold"):
+                    new = ["fits"] + rest[1:]
+                elif f in ("args", "requires", "pre", "ranges", "fits", "auto", "well-formed") and step is None:
+                    word = {"pre": "requires", "fits": "ranges" if (base and place in ("Start", None, "Untold") and (befores or base in ("Start", "Untold"))) else "fits"}.get(f, f)
+                    new = [word] + rest[1:]
+                    if word == "fits" and befores:
+                        new = ["ranges"] + rest[1:]
+                elif f == "ranges" and befores == 0 and base not in ("Start", "Untold"):
+                    new = ["fits"] + rest[1:]
+                elif step is not None:
+                    new = [step] + rest[1:]
+                else:
+                    new = ["before"] * befores + rest
+            else:
+                new = ["before"] * befores
+            new = [{"inv": "invariant", "type-inv": "type_inv", "pre": "requires"}.get(n, n) for n in new]
+            if isinstance(base, tuple) and base[0] == "clauses" and not befores:
+                new = by_name(base[1], new)
+            if isinstance(base, tuple) and base[0] == "call" and not befores and new and new[0] == "ensures":
+                new = new[:1] + by_name(ensures_of(base[1]), new[1:])
+            if new and new[0] == "requires":
+                new = new[:1] + by_name(own["requires"], new[1:])
+            if len(new) > 1 and new[1] == "ensures" and fn.callee(new[0]):
+                new = new[:2] + by_name(ensures_of(fn.callee(new[0])), new[2:])
+            for n in new:
+                out.append(".")
+                out.append(n)
+        return "".join(out)
+
+    def ensures_of(callee):
+        return every.get(callee, {"ensures": []})["ensures"]
+
+    def said_by(text, places):
+        """What a variable stands for that is bound to a path: clauses, or a call."""
+        w = walk(text.strip(), dict(places))
+        parts = w.split(".")
+        if parts[-1] == "requires":
+            return ("clauses", own["requires"])
+        if parts[-1] == "ensures" and len(parts) > 1 and fn.callee(parts[-2]):
+            return ("clauses", ensures_of(fn.callee(parts[-2])))
+        if fn.callee(parts[-1]):
+            return ("call", fn.callee(parts[-1]))
+        return None
+
+    def path_place(text, places):
+        toks = of_text(text.strip())
+        if not toks:
+            return None
+        base, i = None, 1
+        if toks[0] == "(":
+            d, i = 0, 0
+            while i < len(toks):
+                d += (toks[i] == "(") - (toks[i] == ")")
+                i += 1
+                if d == 0:
+                    break
+            inside = "".join(toks[1 : i - 1]).split()
+            base = returned.get(inside[0]) if inside else None
+        elif toks[0] in places:
+            base = places[toks[0]]
+        else:
+            inside = text.split()
+            return returned.get(inside[0]) if inside and inside[0] in returned and len(inside) > 1 else None
+        while i + 1 < len(toks) and toks[i] == ".":
+            if toks[i + 1] != "before":
+                return None
+            base = fn.places[base]["parent"] if isinstance(base, str) and base in fn.places else None
+            i += 2
+        return base
+
+    parts = []
+    for block in blocks(text):
+        if parts and block[0].startswith(" ") and parts[-1][0].startswith(("module", "--", "abbrev", "pub")) or parts and block[0].startswith(" "):
+            parts[-1] += [""] + block
+        else:
+            parts.append(block)
+    for block in parts:
+        body = "\n".join(block)
+        if all(l.startswith(("use ", "--", "open ")) for l in block):
+            head += [l for l in block if not DROPPED.match(l)]
+            continue
+        comments = []
+        while block and block[0].startswith("--"):
+            comments.append(block.pop(0))
+        uses = [l for l in block if l.startswith("use ")]
+        if uses:
+            head += [l for l in uses if not DROPPED.match(l)]
+            block = [l for l in block if not l.startswith("use ")]
+            if not block:
+                head += comments
+                continue
+        body = "\n".join(block)
+        if re.match(r"pub [\w'-]+[-_]spec\b", body):
+            continue
+        m = re.match(r"abbrev (invariant|decreases)-(loop[\w-]*) : tie\.(invariant|decreases)-(loop[\w-]*)\n", body)
+        if m:
+            k = next((k for k, l in enumerate(fn.loops) if norm(l[0][0]) == norm(m[4])), 0)
+            loop, live = fn.loops[k]
+            lines = body[m.end() :]
+            d = re.match(r"((?:unfolding [^\n]*\n)*)([\w-]+) ([^=]*?) =", lines)
+            args = d[3].split()
+            rest = lines[d.end() :]
+            sub = {}
+            moves = fn.changed[k]
+            for j, n in enumerate(live):
+                if j < len(args):
+                    sub[args[j]] = ("l.initial." if moves[j] else "l.") + n
+            cur = [n for n, c in zip(live, moves) if c]
+            for j, n in enumerate(cur):
+                if len(live) + j < len(args):
+                    sub[args[len(live) + j]] = "l." + n
+            toks = of_text(rest)
+            out, j = [], 0
+            while j < len(toks):
+                t = toks[j]
+                if t in sub and not (j and toks[j - 1] == "."):
+                    t = sub[t]
+                out.append(t)
+                j += 1
+            text2 = "".join(out)
+            text2 = re.sub(r"to_z w64 (l\.[\w.]+)", r"\1", text2)
+            text2 = re.sub(r"\((l\.[\w.]+)\)", r"\1", text2)
+            new = f"{m[1]}-{loop[1]}"
+            invariants += [comments + [f"abbrev pub {new} : goal.{new}"] + (d[1].strip().split("\n") if d[1] else []) + [f"{new} l ={text2}"]]
+            continue
+        m = re.match(r"([^\s:]+) : tie\.Need-([\w'-]+)((?: (?:invariant|decreases)-loop[\w-]*)*)\n", body)
+        if m:
+            new, place = fn.need(m[2])
+            lines = body[m.end() :]
+            d = re.match(r"((?:unfolding [^\n]*\n)*)" + re.escape(m[1]) + r"((?: [^\s=]+)*) =", lines)
+            if new is None or not d:
+                left.append("no goal " + m[2])
+                if d and lines[d.end() :].strip() == "search rules":
+                    continue
+                answers.append(comments + ["-- LEFT " + l for l in block])
+                continue
+            args = d[2].split()
+            term = lines[d.end() :]
+            if term.strip() == "search rules":
+                continue
+            places = {args[0]: place} if args else {}
+            returned[m[1]] = None
+            term = walk(term, places)
+            term = retype(term)
+            if norm(m[2]) in fn.asked and len(fn.asked[norm(m[2])]) > 1:
+                record = as_record(term, fn.asked[norm(m[2])])
+                if record is None:
+                    left.append("a record: " + new)
+                else:
+                    term = record
+            names[m[1]] = new
+            answers.append(comments + [f"pub {new} : goal.{new}"] + (d[1].strip().split("\n") if d[1] else []) + [f"«{new}» {' '.join(a for a in args if a != 'κs')} ={term}"])
+            continue
+        if body.startswith("module"):
+            body = re.sub(r"\blts\.([\w-]+) \([^()]*\) reads\.Pre reads\.Post", lambda m: "tie." + m[1], body)
+            places = {v: norm(p) for v, p in typed(body.split(" where")[0])}
+            for n in re.findall(r"^  (?:(?:abbrev|pub) )*([^\s:]+) : ", body, re.M):
+                names[n] = n.replace("-", "_")
+            answers.append(comments + retype(walk(body, places)).split("\n"))
+            continue
+        # a lemma of the function
+        sig = re.match(r"((?:abbrev |unfoldable |pub )*)([^\s:]+) : ((?:.|\n)*?)(?=\n(?:unfolding|\2\b))", body)
+        if sig:
+            last = re.search(r"→ tie\.([\w-]+)[^→\n]*$", sig[3].split("\n")[-1])
+            returned[sig[2]] = norm(last[1]) if last else None
+            names[sig[2]] = sig[2].replace("-", "_")
+            places = {v: norm(p) for v, p in typed(sig[3])}
+            lines = body[sig.end() :]
+            # unnamed arguments: by position
+            kinds = re.findall(r"\((?:\w+) : tie\.([\w-]+)|(?:^|→ )tie\.([\w-]+)", sig[3])
+            d = re.search(r"\n" + re.escape(sig[2]) + r"((?: [^\s=]+)*) =", lines)
+            if d:
+                args = d[1].split()
+                flat = [norm(a or b) for a, b in kinds]
+                for a, p in zip(args, flat):
+                    places.setdefault(a, p)
+            s = retype(walk(sig[3], dict(places)))
+            t = walk(lines, places)
+            answers.append(comments + (sig[1] + sig[2] + " : " + s + retype(t)).split("\n"))
+            continue
+        left.append("a block: " + block[0])
+        answers.append(comments + retype(walk(body, {v: norm(p) for v, p in typed(body)})).split("\n"))
+
+    def renamed(lines):
+        toks = of_text("\n".join(lines))
+        at = next((i for i, t in enumerate(toks) if t.startswith("«")), None)
+        own = "".join(toks[: at or 0])
+        rest = toks[at or 0 :]
+        return (own + "".join(names[t] if t in names and not (i and rest[i - 1] == ".") else t for i, t in enumerate(rest))).replace("«", "").replace("»", "").split("\n")
+
+    answers = [renamed(b) for b in answers]
+    invariants = [renamed(b) for b in invariants]
+    folder = os.path.dirname(path)
+    mod = f"Rattle.{crate}.proofs.{name}"
+    if invariants:
+        text = "\n".join("\n".join(b) + "\n" for b in invariants)
+        words = set(t for t in of_text(text))
+        uses = [l for l in head if l.startswith("use ")]
+        with open(f"{folder}/Invariants.antt", "w", encoding="utf-8") as f:
+            f.write("\n".join(uses) + f"\nuse {mod}.Given as goal\n\n" + text)
+    if answers:
+        with open(f"{folder}/Answers.antt", "w", encoding="utf-8") as f:
+            f.write("\n".join(head) + f"\nuse {mod}.Goals as goal\n\n" + "\n".join("\n".join(b) + "\n" for b in answers))
+    os.remove(path)
+    return left
+
+
+def main():
+    names, crate_dir, old_dir = sys.argv[1:4]
+    only = set(sys.argv[4:])
+    crate = os.path.basename(os.path.abspath(crate_dir))
+    every = contracts(os.path.dirname(os.path.dirname(os.path.abspath(crate_dir))))
+    table = json.load(open(names, encoding="utf-8"))
+    by = {}
+    for k, v in table.items():
+        if k.endswith(".Lts") or ".Lts" in k:
+            by[k.split(".", 1)[1].rsplit(".Lts", 1)[0]] = v
+    for path in sorted(glob.glob(f"{crate_dir}/proofs/**/Proof.antt", recursive=True)):
+        function = os.path.relpath(os.path.dirname(path), f"{crate_dir}/proofs")
+        if only and function not in only:
+            continue
+        key = function.replace("/", ".")
+        if key not in by:
+            print(f"left: {function}: no names")
+            continue
+        old = f"{old_dir}/proofs/{function}/Proof.antt"
+        for l in convert(path, by[key], old, crate, function, every):
+            print(f"left: {function}: {l}")
+
+
+if __name__ == "__main__":
+    main()

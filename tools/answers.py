@@ -177,6 +177,14 @@ def as_record(term, names):
     return lets + "\n    record {\n" + "\n".join(f"      {n} = {p};" for n, p in zip(names, parts)) + "\n    }"
 
 
+def parts_at(block, text):
+    """Where a block stood: its first words, in the text as it was."""
+    line = next(l for l in block if not l.startswith("--"))
+    word = re.sub(r"\b(pub|abbrev|unfoldable|record) ", "", line).split()[0]
+    m = re.search(r"(?m)^(?:(?:pub|abbrev|unfoldable|record) )*" + re.escape(word) + r"\b", text)
+    return m.start() if m else 0
+
+
 def blocks(text):
     out, now = [], []
     for line in text.split("\n"):
@@ -278,7 +286,7 @@ def convert(path, it, old_path, crate, function, every):
                 out.append(t)
                 i += 1
                 continue
-            # a path behind base
+            # a path behind `base`
             befores, parts = 0, []
             while i + 1 < len(toks) and toks[i] == ".":
                 parts.append(toks[i + 1])
@@ -306,7 +314,7 @@ def convert(path, it, old_path, crate, function, every):
                     new = ["before"] * befores + rest
             else:
                 new = ["before"] * befores
-            new = [{"inv": "invariant", "type-inv": "type_inv", "pre": "requires"}.get(n, n) for n in new]
+            new = [{"inv": "invariant", "type-inv": "type_inv", "pre": "requires", "well-formed": "well_formed"}.get(n, n) for n in new]
             if isinstance(base, tuple) and base[0] == "clauses" and not befores:
                 new = by_name(base[1], new)
             if isinstance(base, tuple) and base[0] == "call" and not befores and new and new[0] == "ensures":
@@ -483,6 +491,30 @@ def convert(path, it, old_path, crate, function, every):
 
     answers = [renamed(b) for b in answers]
     invariants = [renamed(b) for b in invariants]
+    # What an invariant cites stands beside it.
+    shared = []
+    while True:
+        words = set(of_text("\n".join("\n".join(b) for b in invariants)))
+        moved = None
+        for b in answers:
+            m = next((re.match(r"((?:abbrev |unfoldable |pub )*)([^\s:«»]+)(?: \{[^}]*\})? :|((?:pub )*)record (\w+)", l) for l in b if not l.startswith("--")), None)
+            word = m and (m[2] or m[4])
+            if word and word in words and "goal." not in "\n".join(b):
+                moved = b
+                k = next(i for i, l in enumerate(b) if not l.startswith("--"))
+                if not re.match(r"(abbrev |unfoldable )*pub ", b[k]):
+                    b[k] = re.sub(r"^((?:abbrev |unfoldable )*)", r"\1pub ", b[k])
+                    if m[4]:
+                        b[k + 1 :] = [re.sub(r"^  (\w[\w'-]* :)", r"  pub \1", l) for l in b[k + 1 :]]
+                invariants.insert(len(shared), b)
+                shared.append(word)
+                break
+        if moved is None:
+            break
+        answers.remove(moved)
+    if shared:
+        invariants = sorted(invariants[: len(shared)], key=lambda b: parts_at(b, text)) + invariants[len(shared) :]
+    cited = [f"use Rattle.{crate}.proofs.{name}.Invariants.{{{', '.join(shared)}}}"] if shared else []
     folder = os.path.dirname(path)
     mod = f"Rattle.{crate}.proofs.{name}"
     if invariants:
@@ -493,7 +525,7 @@ def convert(path, it, old_path, crate, function, every):
             f.write("\n".join(uses) + f"\nuse {mod}.Given as goal\n\n" + text)
     if answers:
         with open(f"{folder}/Answers.antt", "w", encoding="utf-8") as f:
-            f.write("\n".join(head) + f"\nuse {mod}.Goals as goal\n\n" + "\n".join("\n".join(b) + "\n" for b in answers))
+            f.write("\n".join(head + cited) + f"\nuse {mod}.Goals as goal\n\n" + "\n".join("\n".join(b) + "\n" for b in answers))
     os.remove(path)
     return left
 

@@ -60,12 +60,12 @@ module _ (t : Tape) (legal : Legal t) (plan y : List ℤ) where
   abbrev gap : ℤ
   gap = gap_of t plan y
 
-  range_at : (j : ℕ) → j < 4 → range_at (first_ranges t y gap) j ≡ duty_range t (multipliers_of t.n y) gap j
-  range_at zero h = refl
-  range_at (suc zero) h = refl
-  range_at (suc (suc zero)) h = refl
-  range_at (suc (suc (suc zero))) h = refl
-  range_at (suc (suc (suc (suc j)))) h = let z : ⊥ = omega arith in absurd z
+  range_at_lem : (j : ℕ) → j < 4 → range_at (first_ranges t y gap) j ≡ duty_range t (multipliers_of t.n y) gap j
+  range_at_lem zero h = refl
+  range_at_lem (suc zero) h = refl
+  range_at_lem (suc (suc zero)) h = refl
+  range_at_lem (suc (suc (suc zero))) h = refl
+  range_at_lem (suc (suc (suc (suc j)))) h = let z : ⊥ = omega arith in absurd z
 
   rivals_near : (D : ℤ) (rival : List ℤ) → AsCheap t plan D rival → AllNear (problem_of t) (multipliers_of t.n y) gap D (plan_of t.n t.m rival)
   rivals_near D rival r = rival_near (problem_of t) (sound t legal) (multipliers_of t.n y) D rival r.itself (cost_of t plan) r.cost
@@ -76,7 +76,7 @@ module _ (t : Tape) (legal : Legal t) (plan y : List ℤ) where
     near = rivals_near;
     inside = λ D rival r j l.
         let first = legal.steps.0 in
-        rw (range_at j (omega (arith, legal.inputs.1)), lt-ltb j t.m l)
+        rw (range_at_lem j (omega (arith, legal.inputs.1)), lt-ltb j t.m l)
         ((range-holds ((problem_of t).input_term 0 j) _ gap some).each D _ r.itself.from_one (r.itself.inputs-within 0 j first l)
         ((rivals_near D rival r).inputs 0 j first l));
   }

@@ -34,6 +34,10 @@ class Function:
         self.needs = {}
         for (old, new), (place, _) in zip(it["needs"], it["asked_at"]):
             self.needs[norm(old)] = (new, norm(place))
+        self.arms = []
+        for (old, *_), arm in zip(it["places"], it["arms"]):
+            for new, step, path in arm[2] if arm else []:
+                self.arms.append((norm(old), arm[0], new, norm(step), path))
         self.loops = it["loops"]
         self.changed = it["changed"]
         self.asked = {norm(k): v for k, v in it["asked"].items()}
@@ -62,6 +66,20 @@ class Function:
             if f in self.fields:
                 return sorted(self.fields[f])[0], None
         return None, place
+
+    def arm(self, place, befores, rest):
+        """A path into an arm of a match, as it now reads, or None."""
+        f = norm(rest[0])
+        fits = [(len(p), at, [arm, new] + rest[1 + len(p) :]) for at, arm, new, step, p in self.arms if step == f and rest[1 : 1 + len(p)] == p]
+        if not fits:
+            return None
+        chain = []
+        while isinstance(place, str) and place in self.places:
+            chain.append(place)
+            place = self.places[place]["parent"]
+        chain = chain[befores:] if chain else []
+        best = max(fits, key=lambda it: (it[0], -chain.index(it[1]) if it[1] in chain else -99))
+        return best[2]
 
     def callee(self, field):
         return next((p["callee"] for p in self.places.values() if p["field"] == field and p["callee"]), None)
@@ -299,7 +317,10 @@ def convert(path, it, old_path, crate, function, every):
             if rest:
                 f = rest[0]
                 step, place = fn.step(base, befores, f)
-                if f == "ranges" and befores == 0 and base not in ("Start", "Untold"):
+                arm = fn.arm(base, befores, rest)
+                if arm is not None:
+                    new = arm
+                elif f == "ranges" and befores == 0 and base not in ("Start", "Untold"):
                     new = ["fits"] + rest[1:]
                 elif f in ("args", "requires", "pre", "ranges", "fits", "auto", "well-formed") and step is None:
                     word = {"pre": "requires", "fits": "ranges" if (base and place in ("Start", None, "Untold") and (befores or base in ("Start", "Untold"))) else "fits"}.get(f, f)

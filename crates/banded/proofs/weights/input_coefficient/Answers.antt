@@ -1,0 +1,15 @@
+use Prim.Native.Nat.{◌-◌}
+use mathlib.Core.Path.{refl}
+use borrow.Author.Tests.{eq-eqb, ne_eqb}
+use Rattle.integer.specs.Places.{at}
+use Rattle.integer.proofs.Sizes.{called}
+use Rattle.banded.specs.Weights.{input_coefficient}
+use Rattle.banded.proofs.weights.input_coefficient.Goals as goal
+
+pub returns-then-s-k : goal.returns-then-s-k
+unfolding input_coefficient
+returns-then-s-k c = rw (called (at c.args.b.now _) c.result-1.given, eq-eqb _ _ c.if-s-k.true) refl
+
+pub returns : goal.returns
+unfolding input_coefficient
+returns c = rw (ne_eqb _ _ c.if-s-k.false) refl

@@ -1,0 +1,19 @@
+use Prim.Native.Nat.{◌+◌, ◌*◌, ◌-◌, ◌≤◌}
+use mathlib.Core.Path.{◌≡◌, sym}
+use native.Mathlib.Omega.{arith}
+use lib.IntN.{◌+ℤ◌}
+use mir.Syntax.{w64}
+use mir.Val.{to_z}
+use Rattle.integer.specs.Places.{at}
+use Rattle.integer.proofs.Sizes.{back, element_is, Formed}
+use Rattle.integer.proofs.Sum.{sum-none}
+use Rattle.problem.specs.Dual.{piece}
+use Rattle.primal.proofs.TermSums.{copied, place_added, term_sum}
+use Rattle.dual.proofs.PieceSizes.{size-piece}
+use Rattle.dual.proofs.pieces.pieces.Given as goal
+
+abbrev pub invariant-loop-p : goal.invariant-loop-p
+invariant-loop-p l = (l.p ≤ l.count) × (l.total ≡ term_sum piece l.penalty l.low l.high l.reference (at l.s) l.p)
+
+abbrev pub decreases-loop-p : goal.decreases-loop-p
+decreases-loop-p l = l.count - l.p

@@ -1,0 +1,51 @@
+use mathlib.Core.Path.{◌≡◌, refl, sym, ◌∙◌, ap}
+use mathlib.Core.Bool.{false}
+use native.Mathlib.Omega.{arith}
+use borrow.Author.Tests.{eq-eqb, ne_eqb}
+use Rattle.problem.specs.Model.{problem_of, multipliers_of}
+use Rattle.problem.specs.Dual.{ceiling, shows}
+use lib.Signed.{lt_z}
+use Rattle.primal.proofs.Lengths.{count_fits}
+use Rattle.primal.proofs.Held.{floor-held}
+use Rattle.lent.specs.Checks.{wrong_multipliers}
+use Rattle.judge.specs.Judging.{shown_on}
+use Rattle.judge.proofs.show_on.Goals as goal
+
+-- the multipliers passed their test
+in_range : (c : goal.Else-is_any_outside) → wrong_multipliers c.args.multipliers.now ≡ false
+in_range c = sym c.is_any_outside.ensures ∙ c.if-is_any_outside.false
+
+pub overflow_mul-horizon : goal.overflow_mul-horizon
+overflow_mul-horizon c = let l = c.requires in count_fits c.args.t.horizon c.args.t.n l.steps.1 (omega arith)
+
+pub returns-then-multipliers-horizon : goal.returns-then-multipliers-horizon
+unfolding shown_on
+returns-then-multipliers-horizon c = rw (ne_eqb _ _ c.if-multipliers-horizon.true)
+
+pub returns-then-is_any_outside : goal.returns-then-is_any_outside
+unfolding shown_on
+returns-then-is_any_outside c = rw (eq-eqb _ _ c.if-multipliers-horizon.false, ← c.is_any_outside.ensures, c.if-is_any_outside.true)
+
+pub padded_multipliers-y-requires : goal.padded_multipliers-y-requires
+padded_multipliers-y-requires c = let l = c.requires in (l.states.1, l.steps.1, c.if-multipliers-horizon.false, in_range c)
+
+-- what the padded multipliers show, the lent ones do
+shown_is : (c : goal.After-is_shown) →
+    let s = c.before.before.before.before.before.before in
+    c.is_shown.result ≡ shows (problem_of s.args.t) (multipliers_of s.args.t.n s.args.multipliers.now)
+shown_is c =
+    let s = c.before.before.before.before.before.before in
+    let t = s.args.t in
+    c.is_shown.ensures ∙ ap (lt_z (ceiling (problem_of t))) (floor-held t s.requires c.padded_multipliers-y.ensures)
+
+pub returns-then-is_shown : goal.returns-then-is_shown
+unfolding shown_on
+returns-then-is_shown c =
+    let p = c.before.before.before.before in
+    rw (eq-eqb _ _ p.if-multipliers-horizon.false, in_range p, sym (shown_is c.before) ∙ c.if-is_shown.true) refl
+
+pub returns : goal.returns
+unfolding shown_on
+returns c =
+    let p = c.before.before.before.before in
+    rw (eq-eqb _ _ p.if-multipliers-horizon.false, in_range p, sym (shown_is c.before) ∙ c.if-is_shown.false) refl

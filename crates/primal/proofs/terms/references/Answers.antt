@@ -1,0 +1,31 @@
+use Prim.Native.Nat.{ℕ, ◌-◌, ◌<◌, ◌≤◌}
+use mathlib.Core.Path.{◌≡◌, refl, ◌∙◌}
+use native.Mathlib.Omega.{arith}
+use lib.ListN.{length}
+use lib.IntN.{ℤ}
+use Rattle.integer.specs.Places.{at, Steps}
+use Rattle.integer.proofs.Places.{fill_at, steps-none, steps_more, stretch_cong}
+use Rattle.tape.specs.declared.Tape.{Tape}
+use Rattle.tape.specs.Tape.{reference_at}
+use Rattle.primal.specs.Terms.{placed}
+use Rattle.primal.proofs.TermTables.{placed_same}
+use Rattle.primal.proofs.terms.references.Invariants.{held}
+use Rattle.primal.proofs.terms.references.Goals as goal
+
+pub loop-k-init : goal.loop-k-init
+loop-k-init c = (omega arith, refl, steps-none _ 120 _)
+
+-- the row holds the references of its step
+row_is : (c : goal.After-references_at-row) →
+    let turn = c.before.before.before.before.before in
+    (q : ℕ) → q < 10 → at c.references_at-row.result q ≡ reference_at turn.args.t1 q turn.loop-k.k
+row_is c = fill_at c.references_at-row.ensures
+
+pub loop-k-preserved : goal.loop-k-preserved
+loop-k-preserved c =
+    let l = c.loop-k in
+    let stretch = stretch_cong c.put_row.ensures (λ q _. placed_same _ _ q _ _ (omega arith) (omega arith) (row_is c.before.before.before)) in
+    (omega arith, c.put_row.ensures.same ∙ l.invariant.1, steps_more 10 l.k _ _ _ l.invariant.2 stretch)
+
+pub returns : goal.returns
+returns c = let e : c.loop-k.k ≡ 12 = omega arith in rw e at c.loop-k.invariant.2

@@ -1,0 +1,27 @@
+use Prim.Native.Nat.{◌-◌, ◌*◌}
+use mathlib.Core.Path.{refl}
+use native.Mathlib.Omega.{arith}
+use lib.ListN.{length}
+use Rattle.integer.proofs.Filled.{filled_none, filled_part, next_part, filled_whole}
+use Rattle.integer.proofs.Sizes.{wider}
+use Rattle.records.specs.Readers.{number_bytes}
+use Rattle.records.proofs.Bytes.{number_bytes_length, filled_absent}
+use Rattle.records.proofs.write.write_duties.Goals as goal
+
+pub write_numbers-requires : goal.write_numbers-requires
+write_numbers-requires c =
+    let s = c.before.before in
+    let a = s.args in
+    let w = 2 * length a.duties.now in
+    (next_part 0 w w (omega arith) (omega arith) (filled_none 8 {out = a.part.now} s.requires.0), refl, omega arith, wider s.requires.2 (omega arith))
+
+pub returns : goal.returns
+returns c =
+    let second = c.before.before in
+    let first = second.before.before.before.before in
+    let s = first.before.before.before in
+    let a = s.args in
+    let duties = a.duties.now in
+    let w = 2 * length duties in
+    let f = filled_part 0 w w (number_bytes 2 duties) (omega arith) (omega arith) (number_bytes_length 2 duties) (filled_none 8 {out = a.part.now} s.requires.0) first.write_numbers.ensures in
+    filled_whole (filled_absent w 8 (8 - w) (omega arith) (omega arith) f second.fill.ensures)

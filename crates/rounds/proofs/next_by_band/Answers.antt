@@ -1,0 +1,26 @@
+use native.Mathlib.Omega.{arith}
+use Rattle.integer.proofs.Sizes.{wider}
+use Rattle.primal.proofs.ModelSizes.{residuals_bounded}
+use Rattle.rounds.proofs.Filled.{held-step, band_next}
+use Rattle.rounds.proofs.next_by_band.Goals as goal
+
+pub residuals-e-requires : goal.residuals-e-requires
+residuals-e-requires c =
+    let h = c.requires in
+    let l = h.0.0 in
+    (l.steps.1, l.a, l.b, wider l.drift (omega arith), l.start, h.1.1)
+
+pub ascend_by_band-requires : goal.ascend_by_band-requires
+ascend_by_band-requires c =
+    let s = c.before.before.before.before.before.before.before in
+    let h = s.requires in
+    let l = h.0.0 in
+    let r = c.residuals-e.ensures in
+    let bounded = residuals_bounded s.args.t1.horizon l.a l.b (wider l.drift (omega arith)) l.start h.1.1 r in
+    (l, h.0.1, h.0.2, held-step s.args.t1 l h.1.0 r h.0.3 h.0.4 bounded)
+
+pub returns : goal.returns
+returns c =
+    let s = c.before.before.before.before.before.before.before.before in
+    let h = s.requires in
+    band_next s.args.t1 h.0.0 h.1.0 c.residuals-e.ensures s.args.ahead c.ascend_by_band.ensures

@@ -1,0 +1,6 @@
+use mathlib.Core.Path.{refl}
+use Rattle.slip_text.proofs.Appending.{appended_byte}
+use Rattle.slip_text.proofs.text.Text.with_byte.Goals as goal
+
+pub returns : goal.returns
+returns c = appended_byte (search rules) refl

@@ -1,0 +1,24 @@
+use Prim.Native.Nat.{ℕ, ◌+◌, ◌-◌, ◌≤◌}
+use mathlib.Core.Path.{◌≡◌, refl, sym}
+use mathlib.Core.Bool.{Bool, false}
+use mathlib.Core.List.{List}
+use native.Mathlib.Omega.{arith}
+use lib.IntN.{ℤ, pos}
+use lib.Signed.{le_z}
+use borrow.Author.Tests.{not-true, not-false}
+use Rattle.integer.specs.Places.{at}
+use Rattle.integer.specs.Tests.{any}
+use Rattle.integer.proofs.Sizes.{called}
+use Rattle.integer.proofs.Tests.{any_at, any_more}
+use Rattle.tape.specs.Reading.{lacks_weight}
+use Rattle.tape.proofs.reader.lacks_weight.Given as goal
+
+-- the weight of a column is 0
+abbrev pub zero_at : List ℤ → ℕ → Bool
+zero_at weight p = le_z (at weight p) (pos 0)
+
+abbrev pub invariant-loop-column : goal.invariant-loop-column
+invariant-loop-column l = (l.column ≤ l.columns) × (any l.column (zero_at l.weight) ≡ false)
+
+abbrev pub decreases-loop-column : goal.decreases-loop-column
+decreases-loop-column l = l.columns - l.column

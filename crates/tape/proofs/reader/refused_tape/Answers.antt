@@ -1,0 +1,4 @@
+use Rattle.tape.proofs.reader.refused_tape.Goals as goal
+
+pub returns : goal.returns
+returns c = rw c.blank_tape-tape.ensures

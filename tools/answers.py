@@ -301,6 +301,13 @@ def convert(path, it, old_path, crate, function, every):
                         if p is None:
                             p = said_by(m[2], places)
                         places[m[1]] = p
+                        if isinstance(p, tuple) and p[0] == "arm":
+                            out.append(f"let {m[1]} = {p[4]} in")
+                            n = 0
+                            while n < len(m[0]):
+                                n += len(toks[i])
+                                i += 1
+                            continue
                 out.append(t)
                 i += 1
                 continue
@@ -314,7 +321,11 @@ def convert(path, it, old_path, crate, function, every):
                 befores += 1
                 rest.pop(0)
             new = []
-            if rest:
+            arm_of = base if isinstance(base, tuple) and base[0] == "arm" else None
+            if rest and arm_of and not befores:
+                found = fn.arm(arm_of[1], arm_of[2], [arm_of[3], "given"] + rest)
+                new = found[1:] if found else rest
+            elif rest:
                 f = rest[0]
                 step, place = fn.step(base, befores, f)
                 arm = fn.arm(base, befores, rest)
@@ -354,6 +365,12 @@ def convert(path, it, old_path, crate, function, every):
 
     def said_by(text, places):
         """What a variable stands for that is bound to a path: clauses, or a call."""
+        m = re.match(r"^(\w+)((?:\.before)*)\.([\w-]+)\.given$", text.strip())
+        if m and any(step == norm(m[3]) for _, _, _, step, _ in fn.arms):
+            base = places.get(m[1])
+            found = fn.arm(base, m[2].count("before"), [m[3], "given", "1"])
+            if found:
+                return ("arm", base, m[2].count("before"), m[3], f"{m[1]}.{found[0]}")
         w = walk(text.strip(), dict(places))
         parts = w.split(".")
         if parts[-1] == "requires":

@@ -7,54 +7,55 @@ use Rattle.integer.proofs.Sizes.{called}
 use Rattle.integer.proofs.Tests.{or_yes, or_no, or_met}
 use Rattle.commands.specs.Format.{wrong}
 use Rattle.commands.proofs.is_wrong.Goals as goal
+use Rattle.commands.proofs.is_wrong.Tie as tie
 
 -- e is the variant's fields, and that the entry is that variant; `known-told` has the fields' ranges
 pub returns-in-State : goal.returns-in-State
 unfolding wrong
 returns-in-State c =
-    let e = c.entry-1.given in
-    rw (e.1, ← called e.0.1.1.0 c.in-State.known_told-1-own.given.1.1.0.1) c.is_outside.ensures
+    let e = c.in-State in
+    rw (e.is, ← called e.v c.in-State.known_told-1-own.given.1.1.0.1) c.is_outside.ensures
 
 pub returns-in-Input : goal.returns-in-Input
 unfolding wrong
 returns-in-Input c =
-    let e = c.entry-in-Input-1.given in
-    rw (e.1, ← called e.0.1.1.0 c.in-Input.known_told-in-Input-1-own.given.1.1.0.1) c.is_outside-in-Input.ensures
+    let e = c.in-Input in
+    rw (e.is, ← called e.v c.in-Input.known_told-in-Input-1-own.given.1.1.0.1) c.is_outside-in-Input.ensures
 
 pub returns-in-Drift : goal.returns-in-Drift
 unfolding wrong
 returns-in-Drift c =
-    let e = c.entry-in-Drift-1.given in
-    rw (e.1, ← called e.0.1.0 c.in-Drift.known_told-in-Drift-1-own.given.1.0.1) c.is_outside-in-Drift.ensures
+    let e = c.in-Drift in
+    rw (e.is, ← called e.v c.in-Drift.known_told-in-Drift-1-own.given.1.0.1) c.is_outside-in-Drift.ensures
 
 pub returns-in-Column : goal.returns-in-Column
 unfolding wrong
 returns-in-Column c =
-    let e = c.entry-in-Column-1.given in
+    let e = c.in-Column in
     let k = c.in-Column.known_told-in-Column-1-own.given.1 in
     rw (
-      e.1,
-      ← called e.0.1.0 k.0.1,
-      ← called e.0.1.1.0 k.1.0.1,
-      ← called e.0.1.1.1.0 k.1.1.0.1,
-      ← called e.0.1.1.1.1.0 k.1.1.1.0.1,
+      e.is,
+      ← called e.low k.0.1,
+      ← called e.high k.1.0.1,
+      ← called e.reference k.1.1.0.1,
+      ← called e.weight k.1.1.1.0.1,
     )
     c.is_wrong_column.ensures
 
 pub returns-in-Reference : goal.returns-in-Reference
 unfolding wrong
 returns-in-Reference c =
-    let e = c.entry-in-Reference-1.given in
-    rw (e.1, ← called e.0.1.1.0 c.in-Reference.known_told-in-Reference-1-own.given.1.1.0.1) c.is_outside-in-Reference.ensures
+    let e = c.in-Reference in
+    rw (e.is, ← called e.v c.in-Reference.known_told-in-Reference-1-own.given.1.1.0.1) c.is_outside-in-Reference.ensures
 
 pub returns-in-Start : goal.returns-in-Start
 unfolding wrong
 returns-in-Start c =
-    let e = c.entry-in-Start-1.given in
-    rw (e.1, ← called e.0.1.0 c.in-Start.known_told-in-Start-1-own.given.1.0.1) c.is_outside-in-Start.ensures
+    let e = c.in-Start in
+    rw (e.is, ← called e.v c.in-Start.known_told-in-Start-1-own.given.1.0.1) c.is_outside-in-Start.ensures
 
 -- the tests but the last
-tests : (c : goal.Joined-gain-lt1) → let e = c.entry-in-Rounds-1.given in c.if-gain-lt1.if2 ≡ lt_z e.0.1.0 (pos 1) || ltb e.0.1.1.0 1
+tests : (c : tie.Joined-gain-lt1) → let e = c.in-Rounds in c.if-gain-lt1.if2 ≡ lt_z e.gain (pos 1) || ltb e.rounds 1
 tests c =
     let z = called c.in-Rounds.gain c.in-Rounds.known_told-in-Rounds-1-own.given.1.0.1 in
     or_met (ap (λ (v : ℤ). lt_z v (pos 1)) z) c.if-gain-lt1.branch (λ w. (w.0.taken, w.1)) (λ w. (w.0.left, w.1))

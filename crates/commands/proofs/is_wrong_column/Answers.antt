@@ -7,9 +7,10 @@ use Rattle.integer.specs.Tests.{outside}
 use Rattle.integer.proofs.Tests.{or_yes, or_no, or_met}
 use Rattle.commands.specs.Format.{wrong_column}
 use Rattle.commands.proofs.is_wrong_column.Goals as goal
+use Rattle.commands.proofs.is_wrong_column.Tie as tie
 
 -- the tests but the last
-tests : (c : goal.Joined-is_outside-3) → let a = c.args in
+tests : (c : tie.Joined-is_outside-3) → let a = c.args in
     let out = outside (negsuc 19999) (pos 20000) in
     c.if-is_outside-3.if4 ≡ out a.low || out a.high || out a.reference || lt_z a.high a.low
 tests c =

@@ -5,9 +5,10 @@ use borrow.Author.Tests.{lt-ltb, le-ltb}
 use Rattle.integer.proofs.Tests.{or_yes, or_no, or_met}
 use Rattle.commands.specs.Format.{wrong_size}
 use Rattle.commands.proofs.is_wrong_size.Goals as goal
+use Rattle.commands.proofs.is_wrong_size.Tie as tie
 
 -- the tests but the last
-tests : (c : goal.Joined-m-gt4) → let a = c.args in
+tests : (c : tie.Joined-m-gt4) → let a = c.args in
     c.if-m-gt4.if5 ≡ ltb a.n 1 || ltb 6 a.n || ltb a.m 1 || ltb 4 a.m || ltb a.horizon 1
 tests c =
     let two = c.before.before.before in

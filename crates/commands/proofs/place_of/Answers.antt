@@ -3,8 +3,9 @@ use native.Mathlib.Omega.{arith}
 use Rattle.commands.specs.declared.Entry.{Entry}
 use Rattle.commands.proofs.Tests.{Inside, inside}
 use Rattle.commands.proofs.place_of.Goals as goal
+use Rattle.commands.proofs.place_of.Tie as tie
 
-bounds : (c : goal.Start) {e : Entry} → c.args.entry ≡ e → Inside e
+bounds : (c : tie.Start) {e : Entry} → c.args.entry ≡ e → Inside e
 bounds c e = rw e at (inside _ _ _ _ c.requires.0 c.requires.1)
 
 pub overflow_mul-result : goal.overflow_mul-result

@@ -14,7 +14,7 @@ use Rattle.lent.proofs.walk.check_inputs.Given as goal
 
 abbrev pub invariant-loop-j : goal.invariant-loop-j
 invariant-loop-j l =
-    (l.j ≤ l.m) × (first l.j (input_check_at l.low l.high l.plan l.from l.n l.k) ≡ Passed) × Stretch (10 * l.k) l.j (λ l.j. at l.plan (l.from + l.j)) l.initial.v l.v
+    (l.j ≤ l.m) × (first l.j (input_check_at l.low l.high l.plan l.from l.n l.k) ≡ Passed) × Stretch (10 * l.k) l.j (λ j. at l.plan (l.from + j)) l.initial.v l.v
 
 abbrev pub decreases-loop-j : goal.decreases-loop-j
 decreases-loop-j l = l.m - l.j

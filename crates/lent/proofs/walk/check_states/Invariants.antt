@@ -17,7 +17,7 @@ use Rattle.lent.proofs.walk.check_states.Given as goal
 
 abbrev pub invariant-loop-i : goal.invariant-loop-i
 invariant-loop-i l =
-    (l.i ≤ l.n) × (first l.i (state_check_at l.a l.b l.drift l.start l.low l.high l.plan l.initial.v l.from l.k) ≡ Passed) × Stretch (10 * l.k + 4) l.i (λ l.i. at l.plan (l.from + l.i)) l.initial.v l.v
+    (l.i ≤ l.n) × (first l.i (state_check_at l.a l.b l.drift l.start l.low l.high l.plan l.initial.v l.from l.k) ≡ Passed) × Stretch (10 * l.k + 4) l.i (λ i. at l.plan (l.from + i)) l.initial.v l.v
 
 abbrev pub decreases-loop-i : goal.decreases-loop-i
 decreases-loop-i l = l.n - l.i

@@ -20,8 +20,8 @@ use Rattle.passes.proofs.ascend.ascend.Given as goal
 abbrev pub invariant-loop-k : goal.invariant-loop-k
 invariant-loop-k l =
     (l.k ≤ l.horizon) × (length l.next ≡ 72)
-    × Steps 6 l.k (λ l.k i. ascended (padded l.y l.k i) (gain_correction l.gain (residual_by l.a l.forced l.start l.v l.k i))) l.next
-    × (l.total ≡ sum l.k (λ l.k. sum 6 (pull_at l.a l.forced l.start l.v l.y l.k)))
+    × Steps 6 l.k (λ k i. ascended (padded l.y k i) (gain_correction l.gain (residual_by l.a l.forced l.start l.v k i))) l.next
+    × (l.total ≡ sum l.k (λ k. sum 6 (pull_at l.a l.forced l.start l.v l.y k)))
 
 abbrev pub decreases-loop-k : goal.decreases-loop-k
 decreases-loop-k l = l.horizon - l.k

@@ -18,7 +18,7 @@ use Rattle.passes.proofs.ascend.ascend_step.Given as goal
 
 abbrev pub invariant-loop-i : goal.invariant-loop-i
 invariant-loop-i l =
-    (l.i ≤ 6) × Stretch (6 * l.k) l.i (λ l.i. ascended (padded l.y l.k l.i) (gain_correction l.gain (residual_by l.a l.forced l.start l.v l.k l.i))) l.initial.next l.next
+    (l.i ≤ 6) × Stretch (6 * l.k) l.i (λ i. ascended (padded l.y l.k i) (gain_correction l.gain (residual_by l.a l.forced l.start l.v l.k i))) l.initial.next l.next
     × (l.total ≡ sum l.i (pull_at l.a l.forced l.start l.v l.y l.k))
 
 abbrev pub decreases-loop-i : goal.decreases-loop-i

@@ -11,7 +11,7 @@ use Rattle.primal.proofs.Lent.{listed-whole}
 use Rattle.solver.proofs.write.write_numbers.Given as goal
 
 abbrev pub invariant-loop-j : goal.invariant-loop-j
-invariant-loop-j l = (l.j ≤ length l.initial.part) × Stretch 0 l.j (λ l.j. at l.from (l.first + l.j)) l.initial.part l.part
+invariant-loop-j l = (l.j ≤ length l.initial.part) × Stretch 0 l.j (λ j. at l.from (l.first + j)) l.initial.part l.part
 
 abbrev pub decreases-loop-j : goal.decreases-loop-j
 decreases-loop-j l = length l.initial.part - l.j

@@ -7,6 +7,8 @@ use Rattle.integer.proofs.Sizes.{called}
 use Rattle.integer.proofs.Tests.{or_yes, or_no, or_met}
 use Rattle.commands.specs.Format.{wrong}
 use Rattle.commands.proofs.is_wrong.Goals as goal
+use Rattle.commands.proofs.is_wrong.Reads as reads
+use Rattle.commands.proofs.is_wrong.Lts as lts
 use Rattle.commands.proofs.is_wrong.Tie as tie
 
 -- e is the variant's fields, and that the entry is that variant; `known-told` has the fields' ranges
@@ -55,15 +57,15 @@ returns-in-Start c =
     rw (e.is, ← called e.v c.in-Start.known_told-in-Start-1-own.given.1.0.1) c.is_outside-in-Start.ensures
 
 -- the tests but the last
-tests : (c : tie.Joined-gain-lt1) → let e = c.in-Rounds in c.if-gain-lt1.if2 ≡ lt_z e.gain (pos 1) || ltb e.rounds 1
+tests : (c : lts.Joined1 tie.the-claims reads.Pre reads.Post) → let e = c.in-Rounds in c.if-gain-lt1.t-15 ≡ lt_z e.gain (pos 1) || ltb e.rounds 1
 tests c =
     let z = called c.in-Rounds.gain c.in-Rounds.known_told-in-Rounds-1-own.given.1.0.1 in
-    or_met (ap (λ (v : ℤ). lt_z v (pos 1)) z) c.if-gain-lt1.branch (λ w. (w.0.taken, w.1)) (λ w. (w.0.left, w.1))
+    or_met (ap (λ (v : ℤ). lt_z v (pos 1)) z) c.if-gain-lt1.branch-raw (λ w. (w.if-gain-lt1.true, w.t-15-is)) (λ w. (w.if-gain-lt1.false, w.t-15-is))
 
 pub returns-then-rounds-lt1 : goal.returns-then-rounds-lt1
 unfolding wrong
-returns-then-rounds-lt1 c = rw c.in-Rounds.is (or_yes _ (tests c.before) c.if-rounds-lt1.true refl)
+returns-then-rounds-lt1 c = rw c.in-Rounds.is (or_yes _ (tests c.before) c.if-rounds-lt1.true-raw refl)
 
 pub returns-else-rounds-lt1 : goal.returns-else-rounds-lt1
 unfolding wrong
-returns-else-rounds-lt1 c = rw c.in-Rounds.is (or_no (tests c.before) c.if-rounds-lt1.false refl)
+returns-else-rounds-lt1 c = rw c.in-Rounds.is (or_no (tests c.before) c.if-rounds-lt1.false-raw refl)

@@ -12,6 +12,7 @@ use Rattle.commands.specs.Marks.{column_place, start_place, rounds_place, refere
 use Rattle.commands.specs.Required.{among, curved, on_curve, required}
 use Rattle.marks.proofs.required_words.Invariants.{asked, on}
 use Rattle.marks.proofs.required_words.Goals as goal
+use Rattle.marks.proofs.required_words.Goals.{then-is_curved, else-is_curved}
 
 -- with one column more
 one_more : (A : Bool) (column : ℕ) (f : ℕ → Bool) {t : Bool} → f column ≡ t → (A || any column f) || t ≡ A || any (column + 1) f
@@ -49,18 +50,18 @@ loop-column-preserved c =
     let curve = sym c.is_curved.ensures in
     let f : ℕ → ℕ → Bool = λ i. on a.horizon a.given.now (column_place + i) in (
       omega arith,
-      ⊎_elim
-          (λ w. rw w.3 (record {
-            each = λ i h.
-                w.2.ensures.each i h ∙ ap (λ (t : Bool). t || steps i) (loop.invariant.1.each i h)
-                ∙ one_more (own i) loop.column (f i) (ap (λ (t : Bool). steps i && t) (curve ∙ w.0.taken) ∙ and-true (steps i));
-          }))
-          (λ w. rw w.1 (record {
-            each = λ i h.
-                loop.invariant.1.each i h ∙ sym (or-false (own i || any loop.column (f i)))
-                ∙ one_more (own i) loop.column (f i) (ap (λ (t : Bool). steps i && t) (curve ∙ w.0.left) ∙ and-false (steps i));
-          }))
-          c.if-is_curved.branch,
+      elim c.if-is_curved.branch [
+        then-is_curved w ↦ rw w.words-is (record {
+          each = λ i h.
+              w.with_span-words-then-is_curved.ensures.each i h ∙ ap (λ (t : Bool). t || steps i) (loop.invariant.1.each i h)
+              ∙ one_more (own i) loop.column (f i) (ap (λ (t : Bool). steps i && t) (curve ∙ w.if-is_curved.true) ∙ and-true (steps i));
+        })
+        | else-is_curved w ↦ rw w.words-is (record {
+          each = λ i h.
+              loop.invariant.1.each i h ∙ sym (or-false (own i || any loop.column (f i)))
+              ∙ one_more (own i) loop.column (f i) (ap (λ (t : Bool). steps i && t) (curve ∙ w.if-is_curved.false) ∙ and-false (steps i));
+        })
+      ],
     )
 
 pub returns : goal.returns

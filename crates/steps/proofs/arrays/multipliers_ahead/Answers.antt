@@ -10,11 +10,14 @@ use Rattle.integer.proofs.Sizes.{back, element_is}
 use Rattle.steps.specs.Steps.{ahead}
 use Rattle.steps.proofs.Combined.{Combined, combined_more}
 use Rattle.steps.proofs.arrays.multipliers_ahead.Goals as goal
+use Rattle.steps.proofs.arrays.multipliers_ahead.Tie as tie
+use Rattle.steps.proofs.arrays.multipliers_ahead.Reads as reads
+use Rattle.steps.proofs.arrays.multipliers_ahead.Lts as lts
 
 pub loop-p-init : goal.loop-p-init
 loop-p-init c = (omega arith, stretch_none _ _ _)
 
-abbrev turn : goal.After-ahead_of-arg-in-loop-p-1 → goal.In-loop-p
+abbrev turn : goal.After-ahead_of-arg-in-loop-p-1 → lts.In-loop tie.the-claims reads.Pre reads.Post goal.the-invariant-loop-p goal.the-decreases-loop-p
 turn c = c.before.before
 
 pub ahead_of-requires : goal.ahead_of-requires

@@ -11,11 +11,14 @@ use Rattle.primal.proofs.Places.{total_places}
 use Rattle.primal.proofs.TermSizes.{size-most}
 use Rattle.primal.proofs.TermSums.{term_sum, copied, place_added}
 use Rattle.primal.proofs.cost.ceiling_of.Goals as goal
+use Rattle.primal.proofs.cost.ceiling_of.Tie as tie
+use Rattle.primal.proofs.cost.ceiling_of.Reads as reads
+use Rattle.primal.proofs.cost.ceiling_of.Lts as lts
 
 pub loop-p-init : goal.loop-p-init
 loop-p-init c = (omega arith, sym (sum-none _))
 
-abbrev turn : goal.After-most_of-arg-in-loop-p-3-1 → goal.In-loop-p
+abbrev turn : goal.After-most_of-arg-in-loop-p-3-1 → lts.In-loop tie.the-claims reads.Pre reads.Post goal.the-invariant-loop-p goal.the-decreases-loop-p
 turn c = c.before.before.before.before
 
 pub most_of-total-requires : goal.most_of-total-requires
@@ -24,7 +27,7 @@ most_of-total-requires c = copied (turn c).requires.1 (turn c).loop-p.p (omega a
 next : (c : goal.After-most_of-total) →
     let l = (turn c.before).loop-p in
     let a = (turn c.before).args in
-    Formed (to_z w64 l.total +ℤ back c.most_of-total.result)
+    Formed (to_z w64 l.total-bits +ℤ back c.most_of-total.result)
     (term_sum (λ t _. most t) a.penalty.now a.low.now a.high.now a.reference.now (λ _. pos 0) (l.p + 1))
 next c =
     let l = (turn c.before).loop-p in

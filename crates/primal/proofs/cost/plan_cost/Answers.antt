@@ -12,11 +12,14 @@ use Rattle.primal.proofs.Places.{total_places}
 use Rattle.primal.proofs.TermSizes.{near, size-cost}
 use Rattle.primal.proofs.TermSums.{term_sum, copied, place_added}
 use Rattle.primal.proofs.cost.plan_cost.Goals as goal
+use Rattle.primal.proofs.cost.plan_cost.Tie as tie
+use Rattle.primal.proofs.cost.plan_cost.Reads as reads
+use Rattle.primal.proofs.cost.plan_cost.Lts as lts
 
 pub loop-p-init : goal.loop-p-init
 loop-p-init c = (omega arith, sym (sum-none _))
 
-abbrev turn : goal.After-cost_of-arg-in-loop-p-2-1 → goal.In-loop-p
+abbrev turn : goal.After-cost_of-arg-in-loop-p-2-1 → lts.In-loop tie.the-claims reads.Pre reads.Post goal.the-invariant-loop-p goal.the-decreases-loop-p
 turn c = c.before.before.before
 
 pub cost_of-total-requires : goal.cost_of-total-requires
@@ -29,7 +32,7 @@ cost_of-total-requires c =
 next : (c : goal.After-cost_of-total) →
     let l = (turn c.before).loop-p in
     let a = (turn c.before).args in
-    Formed (to_z w64 l.total +ℤ back c.cost_of-total.result)
+    Formed (to_z w64 l.total-bits +ℤ back c.cost_of-total.result)
     (term_sum cost a.penalty.now a.low.now a.high.now a.reference.now (at a.v.now) (l.p + 1))
 unfolding cost
 next c =

@@ -13,6 +13,8 @@ use Rattle.integer.proofs.Sum.{sum-none, added}
 use Rattle.primal.proofs.ProductSizes.{size_product_at}
 use Rattle.primal.proofs.dot.dot.Invariants.{term}
 use Rattle.primal.proofs.dot.dot.Goals as goal
+use Rattle.primal.proofs.dot.dot.Reads as reads
+use Rattle.primal.proofs.dot.dot.Lts as lts
 
 pub loop-q-init : goal.loop-q-init
 loop-q-init c = (omega arith, sym (sum-none _))
@@ -33,7 +35,7 @@ offset_bounds-y-j c = omega (arith, reach c)
 pub bounds-y-j : goal.bounds-y-j
 bounds-y-j c = reach c
 
-abbrev turn : goal.After-total-in-loop-q-1 → goal.In-loop-q
+abbrev turn : goal.After-total-in-loop-q-1 → lts.In-loop reads.Pre reads.Post goal.the-invariant-loop-q goal.the-decreases-loop-q
 turn c = c.before.before
 
 product : (c : goal.After-total-in-loop-q-1) →
@@ -50,7 +52,7 @@ product c =
 next : (c : goal.After-total-in-loop-q-1) →
     let a = (turn c).args in
     let l = (turn c).loop-q in
-    Formed (to_z w64 l.total +ℤ back (back (at a.x.now (a.i + l.q)) *ℤ back (at a.y.now (a.j + a.stride * l.q))))
+    Formed (to_z w64 l.total-bits +ℤ back (back (at a.x.now (a.i + l.q)) *ℤ back (at a.y.now (a.j + a.stride * l.q))))
     (sum (l.q + 1) (term a.x.now a.i a.y.now a.j a.stride))
 next c =
     let l = (turn c).loop-q in

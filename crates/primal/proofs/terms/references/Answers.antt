@@ -11,20 +11,22 @@ use Rattle.primal.specs.Terms.{placed}
 use Rattle.primal.proofs.TermTables.{placed_same}
 use Rattle.primal.proofs.terms.references.Invariants.{held}
 use Rattle.primal.proofs.terms.references.Goals as goal
+use Rattle.primal.proofs.terms.references.Tie as tie
+use Rattle.primal.proofs.terms.references.Reads as reads
+use Rattle.primal.proofs.terms.references.Lts as lts
 
 pub loop-k-init : goal.loop-k-init
 loop-k-init c = (omega arith, refl, steps-none _ 120 _)
 
 -- the row holds the references of its step
-row_is : (c : goal.After-references_at-row) →
-    let turn = c.before.before.before.before.before in
-    (q : ℕ) → q < 10 → at c.references_at-row.result q ≡ reference_at turn.args.t1 q turn.loop-k.k
+row_is : (c : lts.After-references_at tie.the-claims reads.Pre reads.Post goal.the-invariant-loop-k goal.the-decreases-loop-k) →
+    (q : ℕ) → q < 10 → at c.references_at-row.result q ≡ reference_at c.args.t q c.loop-k.k
 row_is c = fill_at c.references_at-row.ensures
 
 pub loop-k-preserved : goal.loop-k-preserved
 loop-k-preserved c =
     let l = c.loop-k in
-    let stretch = stretch_cong c.put_row.ensures (λ q _. placed_same _ _ q _ _ (omega arith) (omega arith) (row_is c.before.before.before)) in
+    let stretch = stretch_cong c.put_row.ensures (λ q _. placed_same _ _ q _ _ (omega arith) (omega arith) (row_is c.before.before.before.before)) in
     (omega arith, c.put_row.ensures.same ∙ l.invariant.1, steps_more 10 l.k _ _ _ l.invariant.2 stretch)
 
 pub returns : goal.returns

@@ -17,7 +17,7 @@ unfolding step_reference
 loop-c-preserved c =
     let turn = c.before.before.before.before.before in
     let a = turn.args in
-    let own = called (at a.t1.reference (12 * turn.loop-c.c + a.k)) c.own_or_held-arg-in-loop-c-1.given in
+    let own = called (at a.curves.reference (12 * turn.loop-c.c + a.k)) c.own_or_held-arg-in-loop-c-1.given in
     let held = called (at a.held.now turn.loop-c.c) c.own_or_held-arg-in-loop-c-2-1.given in
     (omega arith, fill_store turn.loop-c.invariant.1 (omega arith) (called c.own_or_held.result c.own_or_held.type_inv ∙ rw (own, held) at c.own_or_held.ensures))
 

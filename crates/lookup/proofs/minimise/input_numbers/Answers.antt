@@ -14,6 +14,9 @@ use Rattle.dual.proofs.SlopeSizes.{size-input_slope}
 use Rattle.lookup.specs.Numbers.{input_number}
 use Rattle.lookup.proofs.NumberSums.{input_cost, number_is, cost_asks, cost_added}
 use Rattle.lookup.proofs.minimise.input_numbers.Goals as goal
+use Rattle.lookup.proofs.minimise.input_numbers.Tie as tie
+use Rattle.lookup.proofs.minimise.input_numbers.Reads as reads
+use Rattle.lookup.proofs.minimise.input_numbers.Lts as lts
 
 pub loop-j-init : goal.loop-j-init
 loop-j-init c = (omega arith, stretch_none _ _ _, sym (sum-none _))
@@ -24,10 +27,10 @@ number_at-x-requires c =
     let h = c.requires in
     (omega arith, h.2, rw (called f.result f.type_inv, f.ensures) (le_trans (size-input_slope h.3 h.4 _ _) (omega arith)))
 
-abbrev turn : goal.After-number_at-x → goal.In-loop-j
+abbrev turn : lts.After-number_at tie.the-claims reads.Pre reads.Post goal.the-invariant-loop-j goal.the-decreases-loop-j tie.handed_clauses → lts.In-loop tie.the-claims reads.Pre reads.Post goal.the-invariant-loop-j goal.the-decreases-loop-j tie.handed_clauses
 turn c = c.before.before
 
-number : (c : goal.After-number_at-x) →
+number : (c : lts.After-number_at tie.the-claims reads.Pre reads.Post goal.the-invariant-loop-j goal.the-decreases-loop-j tie.handed_clauses) →
     let l = (turn c).loop-j in
     let a = (turn c).args in
     back c.number_at-x.result ≡ input_number a.table.now a.b.now a.y.now a.k l.j
@@ -47,7 +50,7 @@ next : (c : goal.After-cost_of-total) →
     let n = c.before.before.before in
     let l = (turn n).loop-j in
     let a = (turn n).args in
-    Formed (to_z w64 l.total +ℤ back c.cost_of-total.result) (sum (l.j + 1) (input_cost a.table.now a.b.now a.y.now a.k))
+    Formed (to_z w64 l.total-bits +ℤ back c.cost_of-total.result) (sum (l.j + 1) (input_cost a.table.now a.b.now a.y.now a.k))
 next c =
     let n = c.before.before.before in
     let l = (turn n).loop-j in

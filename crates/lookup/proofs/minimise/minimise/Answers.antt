@@ -24,7 +24,7 @@ loop-k-init c =
 inputs_next : (c : goal.After-input_numbers-inputs) →
     let l = c.loop-k in
     let a = c.args in
-    Formed (to_z w64 l.inputs +ℤ back c.input_numbers-inputs.result) (sum (l.k + 1) (inputs_cost a.table.now a.b.now a.y.now))
+    Formed (to_z w64 l.inputs-bits +ℤ back c.input_numbers-inputs.result) (sum (l.k + 1) (inputs_cost a.table.now a.b.now a.y.now))
 inputs_next c =
     let l = c.loop-k in
     let a = c.args in
@@ -38,7 +38,7 @@ overflow_add-inputs c = (inputs_next c).fits
 states_next : (c : goal.After-state_numbers-states) →
     let l = c.loop-k in
     let a = c.args in
-    Formed (to_z w64 l.states +ℤ back c.state_numbers-states.result) (sum (l.k + 1) (states_cost a.horizon a.table.now a.a.now a.y.now))
+    Formed (to_z w64 l.states-bits +ℤ back c.state_numbers-states.result) (sum (l.k + 1) (states_cost a.horizon a.table.now a.a.now a.y.now))
 states_next c =
     let l = c.loop-k in
     let a = c.args in

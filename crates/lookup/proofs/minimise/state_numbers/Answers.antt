@@ -13,6 +13,9 @@ use Rattle.dual.proofs.SlopeSizes.{size-state_slope}
 use Rattle.lookup.specs.Numbers.{state_number}
 use Rattle.lookup.proofs.NumberSums.{state_cost, stretch_stored, number_is, cost_asks, cost_added}
 use Rattle.lookup.proofs.minimise.state_numbers.Goals as goal
+use Rattle.lookup.proofs.minimise.state_numbers.Tie as tie
+use Rattle.lookup.proofs.minimise.state_numbers.Reads as reads
+use Rattle.lookup.proofs.minimise.state_numbers.Lts as lts
 
 pub loop-i-init : goal.loop-i-init
 loop-i-init c = (omega arith, stretch_none _ _ _, sym (sum-none _))
@@ -23,10 +26,10 @@ number_at-x-requires c =
     let h = c.requires in
     (omega arith, h.3, rw (called f.result f.type_inv, f.ensures) (size-state_slope h.4 h.5 _ _ _))
 
-abbrev turn : goal.After-number_at-x → goal.In-loop-i
+abbrev turn : lts.After-number_at tie.the-claims reads.Pre reads.Post goal.the-invariant-loop-i goal.the-decreases-loop-i tie.handed_clauses → lts.In-loop tie.the-claims reads.Pre reads.Post goal.the-invariant-loop-i goal.the-decreases-loop-i tie.handed_clauses
 turn c = c.before.before
 
-number : (c : goal.After-number_at-x) →
+number : (c : lts.After-number_at tie.the-claims reads.Pre reads.Post goal.the-invariant-loop-i goal.the-decreases-loop-i tie.handed_clauses) →
     let l = (turn c).loop-i in
     let a = (turn c).args in
     back c.number_at-x.result ≡ state_number a.horizon a.table.now a.a.now a.y.now a.k l.i
@@ -46,7 +49,7 @@ next : (c : goal.After-cost_of-total) →
     let n = c.before.before.before in
     let l = (turn n).loop-i in
     let a = (turn n).args in
-    Formed (to_z w64 l.total +ℤ back c.cost_of-total.result) (sum (l.i + 1) (state_cost a.horizon a.table.now a.a.now a.y.now a.k))
+    Formed (to_z w64 l.total-bits +ℤ back c.cost_of-total.result) (sum (l.i + 1) (state_cost a.horizon a.table.now a.a.now a.y.now a.k))
 next c =
     let n = c.before.before.before in
     let l = (turn n).loop-i in

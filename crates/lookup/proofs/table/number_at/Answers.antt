@@ -14,8 +14,11 @@ use Rattle.lookup.specs.Table.{term_in, centre, span, inverse}
 use Rattle.lookup.proofs.RowSizes.{scaled, product, size-centre, inverse_nonneg, size-inverse, size-span, scaled_nonneg, size-scaled, size_product}
 use Rattle.lookup.proofs.ByRow.{number_by, by_row}
 use Rattle.lookup.proofs.table.number_at.Goals as goal
+use Rattle.lookup.proofs.table.number_at.Tie as tie
+use Rattle.lookup.proofs.table.number_at.Reads as reads
+use Rattle.lookup.proofs.table.number_at.Lts as lts
 
-module _ (c : goal.Start) where
+module _ (c : lts.Start tie.the-claims reads.Pre reads.Post) where
   abbrev t : Term
   t = term_in c.args.table.now c.args.p
 
@@ -45,7 +48,7 @@ overflow_sub-table c = (less c.before).fits
 
 -- what `limit` gave
 module _ (c : goal.After-limit) where
-  abbrev b : goal.Start
+  abbrev b : lts.Start tie.the-claims reads.Pre reads.Post
   b = c.before.before.before
 
   limit_is : back c.limit.result ≡ scaled (t b) (s b)

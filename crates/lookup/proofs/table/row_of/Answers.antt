@@ -16,8 +16,10 @@ use Rattle.dual.proofs.PieceSizes.{doubled, risen, tilted}
 use Rattle.lookup.specs.Table.{centre, span, inverse}
 use Rattle.lookup.proofs.RowSizes.{over_low, size_width, size-inverted}
 use Rattle.lookup.proofs.table.row_of.Goals as goal
+use Rattle.lookup.proofs.table.row_of.Reads as reads
+use Rattle.lookup.proofs.table.row_of.Lts as lts
 
-module _ (c : goal.Start) where
+module _ (c : lts.Start reads.Pre reads.Post) where
   abbrev p : ℤ
   p = c.args.penalty
 
@@ -43,11 +45,11 @@ module _ (c : goal.Start) where
 
 -- otherwise P may be divided by 4096, and 2^36 by h
 module _ (c : goal.Else-penalty-le0) where
-  abbrev b : goal.Start
+  abbrev b : lts.Start reads.Pre reads.Post
   b = c.before
 
   penalty_is : back (p b) ≡ p b
-  penalty_is = to_z-of_z b.fits.penalty
+  penalty_is = to_z-of_z b.ranges.penalty
 
   weighed : pos 4096 ≼ p b
   weighed = let e = penalty_is in b.requires.weighed (omega (arith, order))
@@ -94,7 +96,7 @@ overflow_sub-result-2 c = (distance (reference_near c.before)).fits
 pub overflow_mul-result-3 : goal.overflow_mul-result-3
 overflow_mul-result-3 c = (risen (reference_near c.before)).fits
 
-centred : (c : goal.Start) →
+centred : (c : lts.Start reads.Pre reads.Post) →
     Formed (back (back (pos 2 *ℤ back (p c)) *ℤ back (back (reference c) -ℤ back (low c))) +ℤ back (p c))
     (pos 2 *ℤ p c *ℤ (reference c -ℤ low c) +ℤ p c)
 centred c = tilted (reference_near c) (p c) (let h = c.requires.penalty in omega arith)

@@ -22,14 +22,16 @@ loop-k-init c = let e = c.requires.horizon_bound.1 in (omega arith, ap length e,
 
 pub ascend_step-total-requires : goal.ascend_step-total-requires
 ascend_step-total-requires c =
-    let s = c.before.before.before in
-    let h = s.requires in
-    rw (to_z-of_z s.ranges.gain) ((omega arith, c.loop-k.invariant.1, h.horizon_bound.2, h.horizon_bound.3), h.bounded)
+    let h = c.requires in
+    rw (to_z-of_z c.ranges.gain) (record {
+      k_bound = (omega arith, c.loop-k.invariant.1, h.horizon_bound.2, h.horizon_bound.3);
+      bounded = h.bounded;
+    })
 
 next : (c : goal.After-ascend_step-total) →
     let l = c.loop-k in
     let a = c.args in
-    Formed (to_z w64 l.total +ℤ back c.ascend_step-total.result)
+    Formed (to_z w64 l.total-bits +ℤ back c.ascend_step-total.result)
     (sum (l.k + 1) (λ k. sum 6 (pull_at a.a.now a.forced.now a.start.now a.v.now a.y.now k)))
 next c =
     let l = c.loop-k in

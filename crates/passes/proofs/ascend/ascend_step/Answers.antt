@@ -15,11 +15,14 @@ use Rattle.steps.specs.Steps.{ascended, gain_correction}
 use Rattle.passes.specs.Sums.{residual_by}
 use Rattle.passes.proofs.SumSizes.{pull_at, size-residual_by, size-pull-at}
 use Rattle.passes.proofs.ascend.ascend_step.Goals as goal
+use Rattle.passes.proofs.ascend.ascend_step.Tie as tie
+use Rattle.passes.proofs.ascend.ascend_step.Reads as reads
+use Rattle.passes.proofs.ascend.ascend_step.Lts as lts
 
 pub loop-i-init : goal.loop-i-init
 loop-i-init c = (omega arith, stretch_none _ _ _, sym (sum-none _))
 
-residual : (c : goal.After-residual_at-e) →
+residual : (c : lts.After-residual_at tie.the-claims reads.Pre reads.Post goal.the-invariant-loop-i goal.the-decreases-loop-i tie.handed_clauses) →
     let a = c.args in
     back c.residual_at-e.result ≡ residual_by a.a.now a.forced.now a.start.now a.v.now a.k c.loop-i.i
 residual c = called c.residual_at-e.result c.residual_at-e.type_inv ∙ c.residual_at-e.ensures
@@ -33,7 +36,7 @@ ascended_of-requires c =
     rw (to_z-of_z s.ranges.gain, element_is h.k_bound.3 (omega arith) p, residual c.before)
     (h.k_bound.2, h.k_bound.3.each p, size-residual_by h.bounded.0 h.bounded.1 h.bounded.2 h.bounded.3 s.args.k l.i)
 
-abbrev turn : goal.After-pull_of-arg-1 → goal.After-residual_at-e
+abbrev turn : goal.After-pull_of-arg-1 → lts.After-residual_at tie.the-claims reads.Pre reads.Post goal.the-invariant-loop-i goal.the-decreases-loop-i tie.handed_clauses
 turn c = c.before.before.before
 
 pub pull_of-total-requires : goal.pull_of-total-requires
@@ -48,7 +51,7 @@ pull_of-total-requires c =
 next : (c : goal.After-pull_of-total) →
     let l = (turn c.before).loop-i in
     let a = (turn c.before).args in
-    Formed (to_z w64 l.total +ℤ back c.pull_of-total.result)
+    Formed (to_z w64 l.total-bits +ℤ back c.pull_of-total.result)
     (sum (l.i + 1) (pull_at a.a.now a.forced.now a.start.now a.v.now a.y.now a.k))
 next c =
     let l = (turn c.before).loop-i in

@@ -18,6 +18,9 @@ use Rattle.passes.specs.Followed.{Lends}
 use Rattle.passes.proofs.StepSums.{step-bounded}
 use Rattle.passes.proofs.FollowedSteps.{Begun, begun_none, step-tested, step_begun}
 use Rattle.passes.proofs.followed.follow.Goals as goal
+use Rattle.passes.proofs.followed.follow.Tie as tie
+use Rattle.passes.proofs.followed.follow.Reads as reads
+use Rattle.passes.proofs.followed.follow.Lts as lts
 
 pub loop-k-init : goal.loop-k-init
 loop-k-init c =
@@ -33,19 +36,19 @@ follow_step-step-requires c =
       bounded = p.bounded;
     }
 
-abbrev turn : goal.After-follow_step-step → goal.In-loop-k
+abbrev turn : lts.After-follow_step tie.the-claims reads.Pre reads.Post goal.the-invariant-loop-k goal.the-decreases-loop-k tie.handed_clauses → lts.In-loop tie.the-claims reads.Pre reads.Post goal.the-invariant-loop-k goal.the-decreases-loop-k tie.handed_clauses
 turn c = c.before.before
 
-size_next : (c : goal.After-follow_step-step) →
+size_next : (c : lts.After-follow_step tie.the-claims reads.Pre reads.Post goal.the-invariant-loop-k goal.the-decreases-loop-k tie.handed_clauses) →
     let l = (turn c).loop-k in
-    nat_abs (to_z w64 l.total +ℤ c.follow_step-step.result.cost) ≤ (l.k + 1) * (6 * most_cost)
+    nat_abs (to_z w64 l.total-bits +ℤ c.follow_step-step.result.cost) ≤ (l.k + 1) * (6 * most_cost)
 size_next c =
     let l = (turn c).loop-k in
     let f = c.follow_step-step in
-    omega (arith, size-add (to_z w64 l.total) f.result.cost l.invariant.3 f.ensures.cost_value.1)
+    omega (arith, size-add (to_z w64 l.total-bits) f.result.cost l.invariant.3 f.ensures.cost_value.1)
 
-next : (c : goal.After-follow_step-step) →
-    let total = to_z w64 (turn c).loop-k.total in
+next : (c : lts.After-follow_step tie.the-claims reads.Pre reads.Post goal.the-invariant-loop-k goal.the-decreases-loop-k tie.handed_clauses) →
+    let total = to_z w64 (turn c).loop-k.total-bits in
     Formed (total +ℤ back c.follow_step-step.result.cost) (total +ℤ c.follow_step-step.result.cost)
 next c =
     let f = c.follow_step-step in

@@ -17,6 +17,9 @@ use Rattle.problem.specs.Model.{rounded}
 use Rattle.problem.specs.Cost.{cost}
 use Rattle.passes.proofs.StepSums.{sum_by_kept, next_state, is_over, state_cost, state_store, size-state, size-state-cost, step-bounded, size_step}
 use Rattle.passes.proofs.followed.follow_step.Goals as goal
+use Rattle.passes.proofs.followed.follow_step.Tie as tie
+use Rattle.passes.proofs.followed.follow_step.Reads as reads
+use Rattle.passes.proofs.followed.follow_step.Lts as lts
 
 pub loop-i-init : goal.loop-i-init
 unfolding any
@@ -33,7 +36,7 @@ bounded c =
 pub next_state-x-requires : goal.next_state-x-requires
 next_state-x-requires c =
     let p = c.requires in
-    (p.k_bound.0, omega arith, p.bounded.0, p.bounded.1, p.bounded.2, bounded c.before)
+    (p.k_bound.0, omega arith, p.bounded.0, p.bounded.1, p.bounded.2, bounded c)
 
 -- the state, from the array as it was before the loop
 abbrev state : goal.In-loop-i → ℤ
@@ -41,18 +44,18 @@ state c =
     let a = c.args in
     next_state a.a.now a.forced.now a.start.now a.plan.now a.k c.loop-i.i
 
-state_is : (c : goal.After-next_state-x) → back c.next_state-x.result ≡ state c.before.before
+state_is : (c : lts.After-next_state tie.the-claims reads.Pre reads.Post goal.the-invariant-loop-i goal.the-decreases-loop-i tie.handed_clauses) → back c.next_state-x.result ≡ state c.before
 state_is c =
     let a = c.args in
     let l = c.loop-i in
     let f = c.next_state-x in
     called f.result f.type_inv ∙ f.ensures ∙ ap rounded (sum_by_kept a.a.now a.forced.now a.start.now a.k l.i l.i l.invariant.2)
 
-abbrev turn : goal.After-is_outside → goal.In-loop-i
-turn c = c.before.before.before.before.before
+abbrev turn : lts.After-is_outside tie.the-claims reads.Pre reads.Post goal.the-invariant-loop-i goal.the-decreases-loop-i tie.handed_clauses → goal.In-loop-i
+turn c = c.before.before.before.before
 
 -- the test, by the numbers of the table
-tested : (c : goal.After-is_outside) →
+tested : (c : lts.After-is_outside tie.the-claims reads.Pre reads.Post goal.the-invariant-loop-i goal.the-decreases-loop-i tie.handed_clauses) →
     let a = (turn c).args in
     is_over a.table.now a.a.now a.forced.now a.start.now a.plan.now a.k (turn c).loop-i.i ≡ c.is_outside.result
 tested c =
@@ -89,10 +92,10 @@ cost_of-total-requires c =
           (tested x ∙ c.if-is_outside.false)),
     )
 
-abbrev passed : goal.After-cost_of-total → goal.Else-is_outside
+abbrev passed : goal.After-cost_of-total → lts.Else1 tie.the-claims reads.Pre reads.Post goal.the-invariant-loop-i goal.the-decreases-loop-i tie.handed_clauses
 passed c = c.before.before.before
 
-none_more : (c : goal.Else-is_outside) →
+none_more : (c : lts.Else1 tie.the-claims reads.Pre reads.Post goal.the-invariant-loop-i goal.the-decreases-loop-i tie.handed_clauses) →
     let a = (turn c.before).args in
     any ((turn c.before).loop-i.i + 1) (is_over a.table.now a.a.now a.forced.now a.start.now a.plan.now a.k) ≡ false
 none_more c = let l = (turn c.before).loop-i in any_more l.i _ l.invariant.1 (tested c.before ∙ c.if-is_outside.false)
@@ -100,7 +103,7 @@ none_more c = let l = (turn c.before).loop-i in any_more l.i _ l.invariant.1 (te
 next : (c : goal.After-cost_of-total) →
     let l = (turn (passed c).before).loop-i in
     let a = (turn (passed c).before).args in
-    Formed (to_z w64 l.total +ℤ back c.cost_of-total.result)
+    Formed (to_z w64 l.total-bits +ℤ back c.cost_of-total.result)
     (sum (l.i + 1) (state_cost a.table.now a.a.now a.forced.now a.start.now a.plan.now a.k))
 unfolding cost
 next c =

@@ -10,6 +10,9 @@ use Rattle.primal.proofs.ProductSizes.{dotted}
 use Rattle.passes.specs.Sums.{forcing}
 use Rattle.passes.proofs.SumSizes.{size-forcing}
 use Rattle.passes.proofs.forced.force_step.Goals as goal
+use Rattle.passes.proofs.forced.force_step.Tie as tie
+use Rattle.passes.proofs.forced.force_step.Reads as reads
+use Rattle.passes.proofs.forced.force_step.Lts as lts
 
 pub loop-i-init : goal.loop-i-init
 loop-i-init c = (omega arith, stretch_none _ _ _)
@@ -24,7 +27,7 @@ dot-requires c =
       wider h.4 (omega arith),
     )
 
-abbrev turn : goal.After-forced-1 → goal.In-loop-i
+abbrev turn : goal.After-forced-1 → lts.In-loop tie.the-claims reads.Pre reads.Post goal.the-invariant-loop-i goal.the-decreases-loop-i
 turn c = c.before.before.before.before
 
 next : (c : goal.After-forced-1) →

@@ -1,7 +1,9 @@
 #!/usr/bin/env python3
 """Turns the Proof.antt of each function of a crate into Invariants.antt and Answers.antt.
 
-usage: answers.py NAMES CRATE OLD [FUNCTION..]
+usage: answers.py [--generated DIR] NAMES CRATE OLD [FUNCTION..]
+
+DIR is what `rt check --generated DIR` wrote: where steps are fewer or more today, the number of `before` follows it.
 
 NAMES is the names.json that `rt check --generated DIR --old-names` writes for the crate, CRATE its folder, OLD the
 same folder as it was before port.py, whose names of steps are the older kit's. A goal that the search answers is
@@ -27,7 +29,9 @@ def of_text(text):
 
 
 class Function:
-    def __init__(self, it):
+    def __init__(self, it, lts=None):
+        self.lts = dict(re.findall(r"pub record ([\w'-]+) : Type 0 where\n\s+pub before : ([\w'-]+)", lts or ""))
+        self.old_names = {norm(p[0]): p[0] for p in it["places"]}
         self.places = {}
         for (old, parent, field, callee, _), new in zip(it["places"], it["places_by_name"]):
             self.places[norm(old)] = dict(parent=parent and norm(parent), old=norm(field[0]), field=field[1], new=new, callee=callee)
@@ -81,6 +85,46 @@ class Function:
         best = max(fits, key=lambda it: (it[0], -chain.index(it[1]) if it[1] in chain else -99))
         return best[2]
 
+    def lead(self, place, target):
+        """How many `before` lead today from a place to another, or None."""
+        if not self.lts or place not in self.old_names or target not in self.old_names:
+            return None
+
+        def records(p):
+            return ["Past-" + self.old_names[p], self.old_names[p]]
+
+        goal = set(records(target))
+        for r in records(place):
+            n, at = 0, r
+            while True:
+                if at in goal:
+                    return n
+                if at not in self.lts:
+                    break
+                at, n = self.lts[at], n + 1
+        return None
+
+    def befores(self, place, count):
+        """How many `before` lead today where so many led from a place."""
+        target = place
+        for _ in range(count):
+            target = self.places[target]["parent"] if target in self.places else None
+        if not self.lts or target is None or place is None:
+            return count
+
+        def records(p):
+            old = self.old_names[p]
+            return ["Past-" + old, old]
+
+        goal = set(records(target))
+        for r in records(place):
+            n, at = 0, r
+            while at in self.lts or at in goal:
+                if at in goal:
+                    return n
+                at, n = self.lts[at], n + 1
+        return count
+
     def callee(self, field):
         return next((p["callee"] for p in self.places.values() if p["field"] == field and p["callee"]), None)
 
@@ -115,7 +159,18 @@ def contracts(root):
                 j += 1
                 if d == 0:
                     break
-            said = {"requires": [], "ensures": []}
+            inside = t[t.index("(", m.end()) + 1 : j - 1]
+            given, d, now = [], 0, ""
+            for ch in inside + ",":
+                d += (ch in "([<{") - (ch in ")]>}")
+                if ch == "," and d == 0:
+                    if now.strip():
+                        given.append(now.strip())
+                    now = ""
+                else:
+                    now += ch
+            said = {"requires": [], "ensures": [], "params": [g.split(":")[0].replace("mut ", "").strip("& ") for g in given]}
+            said["lent"] = [g.split(":")[0].replace("mut ", "").strip() for g in given if re.search(r": &(?:'\w+ )?mut ", g)]
             while True:
                 k = re.compile(r"\b(requires|ensures)\b *(\w*)|\{|;").search(t, j)
                 if not k or not k[1]:
@@ -232,19 +287,20 @@ def restored(text, old):
     return "".join(a)
 
 
-def convert(path, it, old_path, crate, function, every):
+def convert(path, it, old_path, crate, function, every, lts):
     text = open(path, encoding="utf-8").read()
     if os.path.exists(old_path):
         new_lines, old_lines = text.split("\n"), open(old_path, encoding="utf-8").read().split("\n")
         whole = restored(text, "\n".join(old_lines))
         if whole is not None:
             text = whole
-    fn = Function(it)
+    fn = Function(it, lts)
     own = every.get(f"{crate}::{function.replace('/', '::')}", {"requires": [], "ensures": []})
     name = function.replace("/", ".")
     head, invariants, answers, left = [], [], [], []
     names = {}
     returned = {}
+    returning = [None]
     helper_place = {}
 
     def typed(sig):
@@ -288,6 +344,15 @@ def convert(path, it, old_path, crate, function, every):
                 known = inside and inside[0] in returned
                 if not (i < len(toks) and toks[i] == "."):
                     continue
+            elif t in places and isinstance(places[t], str) and not (i + 1 < len(toks) and toks[i + 1] == ".") and not (i and toks[i - 1] == "."):
+                k = len(out) - 1
+                while k >= 0 and out[k].isspace():
+                    k -= 1
+                wants = takes.get(out[k]) if k >= 0 else None
+                n = fn.lead(places[t], wants) if wants else None
+                out.append(t + ".before" * (n or 0))
+                i += 1
+                continue
             elif re.match(r"[a-zA-Z]", t) and i + 1 < len(toks) and toks[i + 1] == "." and not (i and toks[i - 1] == "."):
                 base = places.get(t)
                 out.append(t)
@@ -298,6 +363,15 @@ def convert(path, it, old_path, crate, function, every):
                     m = re.match(r"let (\S+) = ([\w.\s()-]+?) in\b", "".join(toks[i : i + 60]))
                     if m:
                         p = path_place(m[2], places)
+                        whole = re.match(r"^(\w+)((?:\.before)+)$", m[2])
+                        if fn.lts and whole and isinstance(places.get(whole[1]), str):
+                            places[m[1]] = places[whole[1]]
+                            out.append(f"let {m[1]} = {whole[1]} in")
+                            n = 0
+                            while n < len(m[0]):
+                                n += len(toks[i])
+                                i += 1
+                            continue
                         if p is None:
                             p = said_by(m[2], places)
                         places[m[1]] = p
@@ -343,9 +417,28 @@ def convert(path, it, old_path, crate, function, every):
                 elif step is not None:
                     new = [step] + rest[1:]
                 else:
-                    new = ["before"] * befores + rest
+                    new = ["before"] * (fn.befores(base, befores) if isinstance(base, str) else befores) + rest
             else:
-                new = ["before"] * befores
+                new = ["before"] * (fn.befores(base, befores) if isinstance(base, str) else befores)
+                # What the lemma takes says how far to go.
+                k = len(out) - 1
+                if out[k] == ")":
+                    d = 0
+                    while k >= 0:
+                        d += (out[k] == ")") - (out[k] == "(")
+                        if d == 0:
+                            break
+                        k -= 1
+                k -= 1
+                while k >= 0 and out[k].isspace():
+                    k -= 1
+                wants = takes.get(out[k]) if k >= 0 else None
+                if k >= 0 and out[k] == "=" and returning[0]:
+                    wants = returning[0]
+                if wants and isinstance(base, str):
+                    n = fn.lead(base, wants)
+                    if n is not None:
+                        new = ["before"] * n
             new = [{"inv": "invariant", "type-inv": "type_inv", "pre": "requires", "well-formed": "well_formed"}.get(n, n) for n in new]
             if isinstance(base, tuple) and base[0] == "clauses" and not befores:
                 new = by_name(base[1], new)
@@ -353,6 +446,17 @@ def convert(path, it, old_path, crate, function, every):
                 new = new[:1] + by_name(ensures_of(base[1]), new[1:])
             if new and new[0] == "requires":
                 new = new[:1] + by_name(own["requires"], new[1:])
+            if len(new) > 1 and new[0] == "args" and re.fullmatch(r"t\d+", new[1]):
+                k = int(new[1][1:]) - 1
+                if k < len(own.get("params", [])):
+                    new[1] = own["params"][k]
+            if len(new) > 2 and new[1] in ("new", "last") and fn.callee(new[0]) in every:
+                lent = every[fn.callee(new[0])]["lent"]
+                which, at = 0, 2
+                while at < len(new) and new[at] == "1":
+                    which, at = which + 1, at + 1
+                if at < len(new) and new[at] == "0" and which < len(lent):
+                    new = [new[0], "new", lent[which]] + new[at + 1 :]
             if len(new) > 1 and new[1] == "ensures" and fn.callee(new[0]):
                 new = new[:2] + by_name(ensures_of(fn.callee(new[0])), new[2:])
             for n in new:
@@ -413,6 +517,22 @@ def convert(path, it, old_path, crate, function, every):
             parts[-1] += [""] + block
         else:
             parts.append(block)
+    takes = {}
+    for block in parts:
+        body = "\n".join(l for l in block if not l.startswith("--"))
+        if body.startswith("module"):
+            at = re.search(r"\(\w+ : (?:tie|lts)\.([\w-]+)", body)
+            for n in re.findall(r"^  (?:(?:abbrev|pub) )*([^\s:]+) : ", body, re.M):
+                if at:
+                    takes[n] = norm(at[1])
+            continue
+        sig = re.match(r"((?:abbrev |unfoldable |pub )*)([^\s:]+) : ((?:.|\n)*?)(?=\n(?:unfolding|\2\b))", body)
+        if sig and not re.match(r"tie\.Need", sig[3]):
+            at = re.search(r"tie\.([\w-]+)", sig[3])
+            if at:
+                takes[sig[2]] = norm(at[1])
+            last = re.search(r"→ tie\.([\w-]+)[^→\n]*$", sig[3].split("\n")[-1])
+            returned[sig[2]] = norm(last[1]) if last else None
     for block in parts:
         body = "\n".join(block)
         if all(l.startswith(("use ", "--", "open ")) for l in block):
@@ -514,7 +634,9 @@ def convert(path, it, old_path, crate, function, every):
                 for a, p in zip(args, flat):
                     places.setdefault(a, p)
             s = retype(walk(sig[3], dict(places)))
+            returning[0] = returned[sig[2]]
             t = walk(lines, places)
+            returning[0] = None
             answers.append(comments + (sig[1] + sig[2] + " : " + s + retype(t)).split("\n"))
             continue
         left.append("a block: " + block[0])
@@ -569,8 +691,13 @@ def convert(path, it, old_path, crate, function, every):
 
 
 def main():
-    names, crate_dir, old_dir = sys.argv[1:4]
-    only = set(sys.argv[4:])
+    words = sys.argv[1:]
+    generated = None
+    if words[0] == "--generated":
+        generated = words[1]
+        words = words[2:]
+    names, crate_dir, old_dir = words[:3]
+    only = set(words[3:])
     crate = os.path.basename(os.path.abspath(crate_dir))
     every = contracts(os.path.dirname(os.path.dirname(os.path.abspath(crate_dir))))
     table = json.load(open(names, encoding="utf-8"))
@@ -587,7 +714,9 @@ def main():
             print(f"left: {function}: no names")
             continue
         old = f"{old_dir}/proofs/{function}/Proof.antt"
-        for l in convert(path, by[key], old, crate, function, every):
+        made = f"{generated}/Rattle-{crate}-proofs/{function}/Lts.antt"
+        lts = open(made, encoding="utf-8").read() if generated and os.path.exists(made) else None
+        for l in convert(path, by[key], old, crate, function, every, lts):
             print(f"left: {function}: {l}")
 
 

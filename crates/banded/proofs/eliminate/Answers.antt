@@ -2,6 +2,7 @@ use Prim.Native.Nat.{◌≤◌, ◌-◌}
 use mathlib.Core.Path.{◌≡◌, refl}
 use native.Mathlib.Omega.{arith}
 use lib.ListN.{length, length-set}
+use borrow.Author.Rules.{rules}
 use Rattle.problem.specs.Model.{problem_of}
 use Rattle.banded.specs.Elimination.{usable_pivots}
 use Rattle.banded.specs.Weights.{weights}

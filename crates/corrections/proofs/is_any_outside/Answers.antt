@@ -11,13 +11,16 @@ use Rattle.integer.proofs.Tests.{any_at, any_more}
 use Rattle.corrections.specs.Corrections.{most_given}
 use Rattle.corrections.proofs.is_any_outside.Invariants.{wrong}
 use Rattle.corrections.proofs.is_any_outside.Goals as goal
+use Rattle.corrections.proofs.is_any_outside.Tie as tie
+use Rattle.corrections.proofs.is_any_outside.Reads as reads
+use Rattle.corrections.proofs.is_any_outside.Lts as lts
 
 pub loop-p-init : goal.loop-p-init
 unfolding any
 loop-p-init c = (omega arith, refl)
 
 -- the test of the residual that is read
-tested : (t : goal.After-is_outside) →
+tested : (t : lts.After-is_outside tie.the-claims reads.Pre reads.Post goal.the-invariant-loop-p goal.the-decreases-loop-p) →
     t.is_outside.result ≡ wrong (at t.args.residuals.now t.loop-p.p)
 tested t = ◌∙◌ {b = wrong (back (at t.args.residuals.now t.loop-p.p))} t.is_outside.ensures (ap wrong (called _ t.is_outside-arg-1.given))
 

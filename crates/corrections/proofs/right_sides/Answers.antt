@@ -2,6 +2,7 @@ use Prim.Native.Nat.{◌≤◌, ◌-◌}
 use mathlib.Core.Path.{◌≡◌, ap}
 use native.Mathlib.Omega.{arith}
 use lib.ListN.{length, length-set}
+use borrow.Author.Rules.{rules}
 use Rattle.integer.specs.Places.{at}
 use Rattle.integer.proofs.Sizes.{element_is}
 use Rattle.float.proofs.Whole.{whole_fits}

@@ -19,73 +19,87 @@ use Rattle.import.proofs.Bounds.{too_high, too_low, within}
 use Rattle.import.proofs.Product.{product, product_within, product_number, is_whole, not_whole, leftover_is}
 use Rattle.import.proofs.Meaning.{nothing_left, is_number, not_finite_answers, large_answers, whole_answers, near_answers}
 use Rattle.import.proofs.import_entry.Goals as goal
+use Rattle.import.proofs.import_entry.Goals.{Else-entry, Else-entry-3, After-nearest-number}
 
 -- what the first test has found
-fitting : (s : goal.Start) → T (fits binary64 s.args.entry)
-fitting s = passed s.well_formed.0.1
+module _ (c : Else-entry) where
+  fitting : T (fits binary64 c.args.entry)
+  fitting = passed c.well_formed.0.1
 
-is_finite : (c : goal.Else-entry) → finite c.args.entry ≡ true
-unfolding of_bits of_fields odd
-is_finite c = finite_of c.args.entry c.if-entry.false
-
-pub returns-then-entry-3 : goal.returns-then-entry-3
-unfolding of_bits of_fields odd span climb size units neg
-returns-then-entry-3 c =
-    let s = c.before.before.before in
-    let f = is_finite c.before.before in
-    large_answers s.args.entry (fitting s) f (too_low s.args.entry (passed f) c.if-entry-3.true)
+  is_finite : finite c.args.entry ≡ true
+  unfolding of_bits of_fields odd
+  is_finite = finite_of c.args.entry c.if-entry.false
 
 -- and the two of the range
-in_range : (c : goal.Else-entry-3) → nat_abs (number c.args.entry) ≤ 16384
+in_range : (c : Else-entry-3) → nat_abs (number c.args.entry) ≤ 16384
 unfolding of_bits of_fields odd span climb size units neg
-in_range c = within c.args.entry (passed (is_finite c.before.before)) c.if-entry-2.false c.if-entry-3.false
+in_range c = within c.args.entry (passed (finite_of c.args.entry c.if-entry.false)) c.if-entry-2.false c.if-entry-3.false
 
 -- the call gave the entry's number
-given : (c : goal.After-nearest-number) → to_z w64 (of_z w64 c.nearest-number.result) ≡ number c.args.entry
+given : (c : After-nearest-number) → nat_abs (number c.args.entry) ≤ 16384 → to_z w64 (of_z w64 c.nearest-number.result) ≡ number c.args.entry
 unfolding of_bits of_fields odd span climb size units
-given c =
-    let s = c.before.before.before.before in
+given c l =
     called c.nearest-number.result c.nearest-number.type_inv ∙ c.nearest-number.ensures
-    ∙ product_number s.args.entry (passed (is_finite c.before.before.before)) (fitting s) (in_range c.before)
+    ∙ product_number c.args.entry (passed (finite_of c.args.entry c.if-entry.false)) (passed c.well_formed.0.1) l
 
 pub returns-then-entry : goal.returns-then-entry
 unfolding of_bits of_fields odd
-returns-then-entry c = let s = c.before in not_finite_answers s.args.entry (fitting s) (not_finite s.args.entry (fitting s) c.if-entry.true)
+returns-then-entry c =
+    let a = c.args.entry in
+    let w = passed c.well_formed.0.1 in
+    let r = not_finite_answers a w (not_finite a w c.if-entry.true) in
+    record { value = r.0; exact = r.1 }
 
 pub returns-then-entry-2 : goal.returns-then-entry-2
 unfolding of_bits of_fields odd span climb size units
 returns-then-entry-2 c =
-    let s = c.before.before in
-    let f = is_finite c.before in
-    large_answers s.args.entry (fitting s) f (too_high s.args.entry (passed f) c.if-entry-2.true)
+    let e = (goal.at.returns-then-entry-2 c).Else-entry in
+    let f = is_finite e in
+    let r = large_answers c.args.entry (fitting e) f (too_high c.args.entry (passed f) c.if-entry-2.true) in
+    record { value = r.0; exact = r.1 }
+
+pub returns-then-entry-3 : goal.returns-then-entry-3
+unfolding of_bits of_fields odd span climb size units neg
+returns-then-entry-3 c =
+    let e = (goal.at.returns-then-entry-3 c).Else-entry in
+    let f = is_finite e in
+    let r = large_answers c.args.entry (fitting e) f (too_low c.args.entry (passed f) c.if-entry-3.true) in
+    record { value = r.0; exact = r.1 }
 
 pub nearest-number-requires : goal.nearest-number-requires
 unfolding of_bits of_fields odd span climb size units
-nearest-number-requires c = let s = c.before.before.before in product_within s.args.entry (passed (is_finite c.before.before)) (fitting s) (in_range c)
+nearest-number-requires c =
+    let w = goal.at.nearest-number-requires c in
+    product_within c.args.entry (passed (is_finite w.Else-entry)) (fitting w.Else-entry) (in_range w.Else-entry-3)
 
 pub int_to_float-whole : goal.int_to_float-whole
-int_to_float-whole c = rw (given c.before) (whole_fits _ (le_trans (in_range c.before.before) (omega arith)))
+int_to_float-whole c =
+    let w = goal.at.int_to_float-whole c in
+    let l = in_range w.Else-entry-3 in
+    rw (given w.After-nearest-number l) (whole_fits _ (le_trans l (omega arith)))
 
 pub returns-then-product-whole : goal.returns-then-product-whole
 unfolding of_bits of_fields odd span climb size units
 returns-then-product-whole c =
-    let n = c.before.before in
-    let s = n.before.before.before.before in
-    let a = s.args.entry in
-    let f = is_finite n.before.before.before in
-    let l = in_range n.before in
-    let t = subst (λ (z : ℤ). eq (product a) (of_int binary64 z) ≡ true) (given n) c.if-product-whole.true in
-    whole_answers a (fitting s) f l (nothing_left a (passed f) (is_whole a (passed f) (fitting s) l t)) (given n)
+    let w = goal.at.returns-then-product-whole c in
+    let a = c.args.entry in
+    let f = is_finite w.Else-entry in
+    let l = in_range w.Else-entry-3 in
+    let n = given w.After-nearest-number l in
+    let t = subst (λ (z : ℤ). eq (product a) (of_int binary64 z) ≡ true) n c.if-product-whole.true in
+    let r = whole_answers a (fitting w.Else-entry) f l (nothing_left a (passed f) (is_whole a (passed f) (fitting w.Else-entry) l t)) n in
+    record { value = r.0; exact = r.1 }
 
 pub returns : goal.returns
 unfolding of_bits of_fields odd span climb size units
 returns c =
-    let n = c.before.before in
-    let s = n.before.before.before.before in
-    let a = s.args.entry in
-    let f = is_finite n.before.before.before in
-    let l = in_range n.before in
-    let t = subst (λ (z : ℤ). eq (product a) (of_int binary64 z) ≡ false) (given n) c.if-product-whole.false in
-    let u = not_whole a (passed f) (fitting s) l t in
-    near_answers a (fitting s) f l (λ z. u (is_number a (passed f) z)) (given n)
-    (ap (λ (z : ℤ). sub binary64 (product a) (of_int binary64 z)) (given n) ∙ leftover_is a (passed f) (fitting s) l u)
+    let w = goal.at.returns c in
+    let a = c.args.entry in
+    let f = is_finite w.Else-entry in
+    let l = in_range w.Else-entry-3 in
+    let n = given w.After-nearest-number l in
+    let t = subst (λ (z : ℤ). eq (product a) (of_int binary64 z) ≡ false) n c.if-product-whole.false in
+    let u = not_whole a (passed f) (fitting w.Else-entry) l t in
+    let r = near_answers a (fitting w.Else-entry) f l (λ z. u (is_number a (passed f) z)) n
+    (ap (λ (z : ℤ). sub binary64 (product a) (of_int binary64 z)) n ∙ leftover_is a (passed f) (fitting w.Else-entry) l u) in
+    record { value = r.0; exact = r.1 }

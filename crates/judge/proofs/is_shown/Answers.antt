@@ -6,20 +6,23 @@ use Rattle.problem.specs.Dual.{floor, ceiling}
 use Rattle.primal.specs.Padded.{padded}
 use Rattle.primal.proofs.Padding.{ceiling-padded, padded_terms}
 use Rattle.judge.proofs.is_shown.Goals as goal
+use Rattle.judge.proofs.is_shown.Tie as tie
+use Rattle.judge.proofs.is_shown.Reads as reads
+use Rattle.judge.proofs.is_shown.Lts as lts
 
 -- where the function starts
-abbrev start : goal.After-ceiling_of-ceiling → goal.Start
-start c = c.before.before.before.before.before.before
+abbrev start : lts.After-ceiling_of tie.the-claims reads.Pre reads.Post tie.handed_clauses → lts.Start tie.the-claims reads.Pre reads.Post tie.handed_clauses
+start c = c.before.before.before.before.before
 
 -- the padded problem's ceiling is the tape's
-ceiling_is : (c : goal.After-ceiling_of-ceiling) → back c.ceiling_of-ceiling.result ≡ ceiling (problem_of (start c).args.t)
+ceiling_is : (c : lts.After-ceiling_of tie.the-claims reads.Pre reads.Post tie.handed_clauses) → back c.ceiling_of-ceiling.result ≡ ceiling (problem_of (start c).args.t)
 ceiling_is c =
     let a = (start c).args in
     let h = (start c).requires in
     let f = c.ceiling_of-ceiling in
     ◌∙◌ {b = f.result} (called f.result f.type_inv)
-    (◌∙◌ {b = ceiling (padded_terms a.t h.legal.0 a.t2.penalty a.t2.low a.t2.high a.t2.reference h.legal.1)} f.ensures
-    (ceiling-padded a.t h.legal.0 a.t2.penalty a.t2.low a.t2.high a.t2.reference h.legal.1))
+    (◌∙◌ {b = ceiling (padded_terms a.t h.legal.0 a.terms.penalty a.terms.low a.terms.high a.terms.reference h.legal.1)} f.ensures
+    (ceiling-padded a.t h.legal.0 a.terms.penalty a.terms.low a.terms.high a.terms.reference h.legal.1))
 
 floor_is : (c : goal.After-tape_floor-floor) → let a = (start c.before).args in back c.tape_floor-floor.result ≡ floor (problem_of a.t) (padded a.y)
 floor_is c = called c.tape_floor-floor.result c.tape_floor-floor.type_inv ∙ c.tape_floor-floor.ensures

@@ -15,38 +15,41 @@ use Rattle.dual.proofs.FloorPadding.{floor-padded}
 use Rattle.dual.proofs.FloorSizes.{size-floor}
 use Rattle.judge.specs.Judging.{gap_within}
 use Rattle.judge.proofs.judge_gap.Goals as goal
+use Rattle.judge.proofs.judge_gap.Tie as tie
+use Rattle.judge.proofs.judge_gap.Reads as reads
+use Rattle.judge.proofs.judge_gap.Lts as lts
 
 -- where the function starts
-abbrev start : goal.After-plan_cost-cost → goal.Start
-start c = c.before.before.before.before.before.before.before
+abbrev start : lts.After-plan_cost tie.the-claims reads.Pre reads.Post tie.handed_clauses → lts.Start tie.the-claims reads.Pre reads.Post tie.handed_clauses
+start c = c.before.before.before.before.before.before
 
 -- the tape's cost and floor, of which the gap is formed
-abbrev costAt : goal.Start → ℤ
-costAt s = plan_cost (problem_of s.args.t) (padded_plan s.args.t3)
+abbrev costAt : lts.Start tie.the-claims reads.Pre reads.Post tie.handed_clauses → ℤ
+costAt s = plan_cost (problem_of s.args.t) (padded_plan s.args.v)
 
-abbrev floorAt : goal.Start → ℤ
+abbrev floorAt : lts.Start tie.the-claims reads.Pre reads.Post tie.handed_clauses → ℤ
 floorAt s = floor (problem_of s.args.t) (padded s.args.y)
 
 -- the padded problem's cost and floor are the tape's
-cost_same : (s : goal.Start) →
+cost_same : (s : lts.Start tie.the-claims reads.Pre reads.Post tie.handed_clauses) →
     let a = s.args in
-    plan_cost (padded_terms a.t s.requires.legal.0 a.t2.penalty a.t2.low a.t2.high a.t2.reference s.requires.legal.1) (padded_plan a.t3) ≡ costAt s
+    plan_cost (padded_terms a.t s.requires.legal.0 a.terms.penalty a.terms.low a.terms.high a.terms.reference s.requires.legal.1) (padded_plan a.v) ≡ costAt s
 cost_same s =
     let a = s.args in
     let h = s.requires in
     let l = h.legal.0.steps.1 in
-    cost-padded a.t h.legal.0 a.t2.penalty a.t2.low a.t2.high a.t2.reference h.legal.1 (padded_plan a.t3)
+    cost-padded a.t h.legal.0 a.terms.penalty a.terms.low a.terms.high a.terms.reference h.legal.1 (padded_plan a.v)
     (λ k j m. h.bounded.1.input k j (omega arith)) (λ k i m. h.bounded.1.state k i (omega arith))
 
-floor_same : (s : goal.Start) →
+floor_same : (s : lts.Start tie.the-claims reads.Pre reads.Post tie.handed_clauses) →
     let a = s.args in
-    floor (padded_tape a.t a.t2.penalty a.t2.low a.t2.high a.t2.reference) (padded a.y) ≡ floorAt s
+    floor (padded_tape a.t a.terms.penalty a.terms.low a.terms.high a.terms.reference) (padded a.y) ≡ floorAt s
 floor_same s =
     let a = s.args in
     let h = s.requires in
-    floor-padded a.t h.legal.0 a.t2.penalty a.t2.low a.t2.high a.t2.reference h.legal.1 (padded a.y) h.bounded.3.each
+    floor-padded a.t h.legal.0 a.terms.penalty a.terms.low a.terms.high a.terms.reference h.legal.1 (padded a.y) h.bounded.3.each
 
-cost_is : (c : goal.After-plan_cost-cost) → back c.plan_cost-cost.result ≡ costAt (start c)
+cost_is : (c : lts.After-plan_cost tie.the-claims reads.Pre reads.Post tie.handed_clauses) → back c.plan_cost-cost.result ≡ costAt (start c)
 cost_is c = called c.plan_cost-cost.result c.plan_cost-cost.type_inv ∙ c.plan_cost-cost.ensures ∙ cost_same (start c)
 
 floor_is : (c : goal.After-tape_floor-floor) → back c.tape_floor-floor.result ≡ floorAt (start c.before)
@@ -65,7 +68,7 @@ gap c =
     (size-sub (costAt s) (floorAt s) (rw (cost_same s) at (size_plan_cost h.legal.1.tables t.horizon l.steps.1 h.bounded.0))
     (rw (floor_same s) at (size-floor h.legal.1.tables t.horizon l.steps.1 l.a l.b l.drift l.start h.bounded.2))) (omega arith)
 
-wanted_is : (s : goal.Start) → back s.args.t.wanted ≡ s.args.t.wanted
+wanted_is : (s : lts.Start tie.the-claims reads.Pre reads.Post tie.handed_clauses) → back s.args.t.wanted ≡ s.args.t.wanted
 wanted_is s =
     let w = s.args.t.wanted in
     let r = s.requires.legal.0.wanted in

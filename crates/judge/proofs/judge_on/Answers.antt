@@ -10,9 +10,12 @@ use Rattle.primal.proofs.Held.{floor-held, cost-held}
 use Rattle.lent.specs.Checks.{wrong_multipliers, plan_check}
 use Rattle.judge.specs.Judging.{judged_on}
 use Rattle.judge.proofs.judge_on.Goals as goal
+use Rattle.judge.proofs.judge_on.Tie as tie
+use Rattle.judge.proofs.judge_on.Reads as reads
+use Rattle.judge.proofs.judge_on.Lts as lts
 
 -- the place behind the tests of the lent slices, and where the function starts
-abbrev tested : goal.After-v-1 → goal.Else-is_any_outside
+abbrev tested : lts.After-v tie.the-claims reads.Pre reads.Post tie.handed_clauses → goal.Else-is_any_outside
 tested c = c.before.before.before.before
 
 abbrev start : goal.Else-is_any_outside → goal.Start
@@ -22,13 +25,13 @@ in_range : (c : goal.Else-is_any_outside) → wrong_multipliers (start c).args.m
 in_range c = sym c.is_any_outside.ensures ∙ c.if-is_any_outside.false
 
 -- what the tests of the plan answered
-check_is : (c : goal.After-checked_plan-walk) →
+check_is : (c : lts.After-checked_plan tie.the-claims reads.Pre reads.Post tie.handed_clauses) →
     let a = (start c.before.before.before).args in
     plan_check (problem_of a.t) (plan_of a.t.n a.t.m a.plan.now) ≡ c.checked_plan-walk.result.check
 check_is c = sym c.checked_plan-walk.ensures.check_value
 
 held : (c : goal.In-Passed) →
-    let a = (start (tested c.before.before)).args in
+    let a = (start (tested c.before)).args in
     HeldPlan a.t.n a.t.m a.t.horizon (plan_of a.t.n a.t.m a.plan.now) c.checked_plan-walk.result.plan
 held c = rw c.in-Passed.is at c.checked_plan-walk.ensures.held_when_passed
 
@@ -56,7 +59,7 @@ padded_multipliers-y-requires c = let l = (start c).requires in (l.states.1, l.s
 
 pub judge_gap-requires : goal.judge_gap-requires
 judge_gap-requires c =
-    let p = c.before.before in
+    let p = c.before in
     let y = p.padded_multipliers-y.ensures in
     let v = held c in
     record {
@@ -68,13 +71,13 @@ pub returns-in-Passed : goal.returns-in-Passed
 unfolding judged_on
 returns-in-Passed c =
     let e = c.before in
-    let p = e.before.before in
+    let p = e.before in
     let q = tested p in
     let s = start q in
     let t = s.args.t in
     rw (
-      eq-eqb _ _ q.if-plan-horizon.left,
-      eq-eqb _ _ q.if-multipliers-horizon.left,
+      eq-eqb _ _ q.if-plan-horizon.false,
+      eq-eqb _ _ q.if-multipliers-horizon.false,
       in_range q,
       check_is p.before ∙ e.in-Passed.is,
       ← cost-held t s.requires (held e),
@@ -84,11 +87,11 @@ returns-in-Passed c =
 pub returns-in-Failed : goal.returns-in-Failed
 unfolding judged_on
 returns-in-Failed c =
-    let p = c.before.before.before in
+    let p = c.before in
     let q = tested p in
     rw (
-      eq-eqb _ _ q.if-plan-horizon.left,
-      eq-eqb _ _ q.if-multipliers-horizon.left,
+      eq-eqb _ _ q.if-plan-horizon.false,
+      eq-eqb _ _ q.if-multipliers-horizon.false,
       in_range q,
       check_is p.before ∙ c.in-Failed.is,
     )

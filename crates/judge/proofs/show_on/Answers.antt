@@ -10,6 +10,9 @@ use Rattle.primal.proofs.Held.{floor-held}
 use Rattle.lent.specs.Checks.{wrong_multipliers}
 use Rattle.judge.specs.Judging.{shown_on}
 use Rattle.judge.proofs.show_on.Goals as goal
+use Rattle.judge.proofs.show_on.Tie as tie
+use Rattle.judge.proofs.show_on.Reads as reads
+use Rattle.judge.proofs.show_on.Lts as lts
 
 -- the multipliers passed their test
 in_range : (c : goal.Else-is_any_outside) → wrong_multipliers c.args.multipliers.now ≡ false
@@ -30,7 +33,7 @@ pub padded_multipliers-y-requires : goal.padded_multipliers-y-requires
 padded_multipliers-y-requires c = let l = c.requires in (l.states.1, l.steps.1, c.if-multipliers-horizon.false, in_range c)
 
 -- what the padded multipliers show, the lent ones do
-shown_is : (c : goal.After-is_shown) →
+shown_is : (c : lts.After-is_shown tie.the-claims reads.Pre reads.Post tie.handed_clauses) →
     let s = c.before.before.before.before.before.before in
     c.is_shown.result ≡ shows (problem_of s.args.t) (multipliers_of s.args.t.n s.args.multipliers.now)
 shown_is c =

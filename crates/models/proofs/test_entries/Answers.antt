@@ -1,9 +1,9 @@
-use Prim.Native.Nat.{ℕ, ◌+◌, ◌-◌, ◌≤◌, zero-le}
+use Prim.Native.Nat.{ℕ, ◌+◌, zero-le}
 use mathlib.Core.Path.{◌≡◌, sym, ap, ◌∙◌}
 use mathlib.Core.List.{List}
 use native.Mathlib.Omega.{arith}
 use native.Mathlib.Nat.{add-zero}
-use lib.ListN.{length, get_or, drop}
+use lib.ListN.{get_or, drop}
 use lib.Ieee.{Float, nan}
 use Rattle.import.specs.Entries.{imported}
 use Rattle.models.specs.Models.{verdict, first, tested}
@@ -25,24 +25,19 @@ loop-i-init c = (zero-le, ap (λ (n : ℕ). tested n c.args.entries.now) (sym (a
 
 pub returns-in-Refused : goal.returns-in-Refused
 returns-in-Refused c =
-    let v = c.before.before.before in
-    let l = v.loop-i in
-    let s = v.before.before.before.before.before.before in
-    let x = s.args.entries.now in
-    let n = s.args.count in
-    sym (l.invariant.1 ∙ tested-step n l.i x (omega arith) ∙ ap (then n l.i x) (found (n + l.i) (get_or x l.i nan) v.import_entry.ensures.value v.verdict-answer.ensures ∙ c.in-Refused.is))
+    let l = c.loop-i in
+    let x = c.args.entries.now in
+    let n = c.args.count in
+    sym (l.invariant.1 ∙ tested-step n l.i x (omega arith) ∙ ap (then n l.i x) (found (n + l.i) (get_or x l.i nan) c.import_entry.ensures.value c.verdict-answer.ensures ∙ c.in-Refused.is))
 
 pub loop-i-preserved : goal.loop-i-preserved
 loop-i-preserved c =
-    let v = c.before.before in
-    let l = v.loop-i in
-    let s = v.before.before.before.before.before.before in
-    let x = s.args.entries.now in
-    let n = s.args.count in
-    (omega arith, l.invariant.1 ∙ tested-step n l.i x (omega arith) ∙ ap (then n l.i x) (found (n + l.i) (get_or x l.i nan) v.import_entry.ensures.value v.verdict-answer.ensures ∙ c.in_default.is))
+    let l = c.loop-i in
+    let x = c.args.entries.now in
+    let n = c.args.count in
+    (omega arith, l.invariant.1 ∙ tested-step n l.i x (omega arith) ∙ ap (then n l.i x) (found (n + l.i) (get_or x l.i nan) c.import_entry.ensures.value c.verdict-answer.ensures ∙ c.in_default.is))
 
 pub returns : goal.returns
 returns c =
-    let s = c.before.before.before in
     let l = c.loop-i in
-    tested-none (s.args.count + l.i) s.args.entries.now l.i (omega arith) ∙ sym l.invariant.1
+    tested-none (c.args.count + l.i) c.args.entries.now l.i (omega arith) ∙ sym l.invariant.1

@@ -1,15 +1,7 @@
-use Prim.Native.Nat.{ℕ, ◌+◌, ◌-◌, ◌≤◌, zero-le}
-use mathlib.Core.Path.{◌≡◌, sym, ap, ◌∙◌}
-use mathlib.Core.List.{List}
-use native.Mathlib.Omega.{arith}
-use native.Mathlib.Nat.{add-zero}
-use lib.ListN.{length, get_or, drop}
-use lib.Ieee.{Float, nan}
-use Rattle.import.specs.Entries.{imported}
-use Rattle.models.specs.Models.{verdict, first, tested}
-use Rattle.import.specs.declared.Entry.{Entry}
-use Rattle.models.specs.declared.Model.{Model}
-use Rattle.models.proofs.Tested.{tested-step, tested-none}
+use Prim.Native.Nat.{◌+◌, ◌-◌, ◌≤◌}
+use mathlib.Core.Path.{◌≡◌}
+use lib.ListN.{length, drop}
+use Rattle.models.specs.Models.{tested}
 use Rattle.models.proofs.test_entries.Given as goal
 
 abbrev pub invariant-loop-i : goal.invariant-loop-i

@@ -1,17 +1,7 @@
-use Prim.Native.Nat.{◌+◌, ◌-◌, ◌*◌, ◌/◌, ◌%◌, ◌<◌, ◌≤◌, zero-le}
-use mathlib.Core.Path.{◌≡◌, refl, sym, ap, ap₂, ◌∙◌}
-use mathlib.Core.List.{List, ◌∷◌, ◌++◌}
-use native.Mathlib.Omega.{arith}
-use native.Mathlib.Nat.{div-le_self, mod-le}
-use lib.ListN.{length, get_or, take}
-use lib.Seq.{take_all}
-use lib.IntN.{ℤ}
-use lib.Ieee.{Float, nan}
-use Rattle.integer.specs.Encoding.{signed_bytes}
-use Rattle.integer.proofs.Sizes.{called}
-use Rattle.integer.proofs.Middle.{length_part, length_put, front_put}
-use Rattle.models.specs.Models.{command, commands_from}
-use Rattle.models.proofs.Output.{entry_command, command-length, commands_next}
+use Prim.Native.Nat.{◌-◌, ◌*◌, ◌≤◌}
+use mathlib.Core.Path.{◌≡◌}
+use lib.ListN.{length, take}
+use Rattle.models.specs.Models.{commands_from}
 use Rattle.models.proofs.write_commands.Given as goal
 
 abbrev pub invariant-loop-i : goal.invariant-loop-i

@@ -1,4 +1,4 @@
-use Prim.Native.Nat.{◌+◌, ◌*◌}
+use Prim.Native.Nat.{◌*◌}
 use mathlib.Core.Path.{◌≡◌, sym, ap, ap₂, ◌∙◌}
 use mathlib.Core.List.{◌++◌}
 use native.Mathlib.Omega.{arith}
@@ -14,14 +14,12 @@ slice_bounds-write_commands-end-2 c =
 
 pub write_commands-requires : goal.write_commands-requires
 write_commands-requires c =
-    let s = c.before.before.before.before in
-    (length-take-le (5 * length s.args.a.now) s.args.out.now (omega arith), s.requires.1, s.requires.3)
+    (length-take-le (5 * length c.args.a.now) c.args.out.now (omega arith), c.requires.1, c.requires.3)
 
 pub returns : goal.returns
 returns c =
-    let s = c.before.before.before.before.before.before.before.before.before.before.before in
-    let a = s.args.a.now in
+    let a = c.args.a.now in
     let p = c.write_commands in
     let q = c.write_commands-2 in
-    let l : length p.new.0 ≡ 5 * length a = ap length p.ensures ∙ commands_length 0x20 s.args.n 0 a in
-    two_parts (5 * length a) s.args.out.now p.new.0 q.new.0 l ∙ ap₂ ◌++◌ p.ensures q.ensures
+    let l : length p.new.out ≡ 5 * length a = ap length p.ensures ∙ commands_length 0x20 c.args.n 0 a in
+    two_parts (5 * length a) c.args.out.now p.new.out q.new.out l ∙ ap₂ ◌++◌ p.ensures q.ensures

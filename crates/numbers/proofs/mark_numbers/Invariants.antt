@@ -1,14 +1,7 @@
 use Prim.Native.Nat.{◌-◌, ◌≤◌}
-use mathlib.Core.Path.{◌≡◌, sym, ◌∙◌}
-use mathlib.Core.Bool.{false}
-use mathlib.Core.List.{map}
-use native.Mathlib.Omega.{arith}
-use lib.ListN.{replicate, length-map, get_or-map}
-use lib.Seq.{ext_get_or}
+use lib.ListN.{replicate}
 use lib.IntN.{pos}
 use Rattle.integer.specs.Places.{Stretch}
-use Rattle.integer.proofs.Places.{stretch_none, fill_store, fill_at}
-use Rattle.integer.proofs.Sizes.{called}
 use Rattle.commands.specs.Marks.{marked}
 use Rattle.numbers.specs.Numbers.{mark_number}
 use Rattle.numbers.proofs.mark_numbers.Given as goal

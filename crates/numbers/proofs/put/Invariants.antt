@@ -1,12 +1,7 @@
 use Prim.Native.Nat.{◌≤◌, ◌-◌}
-use mathlib.Core.Path.{◌≡◌, refl, ◌∙◌, ap}
-use mathlib.Core.List.{List, ◌++◌}
-use native.Mathlib.Omega.{arith}
-use native.Mathlib.Numerals.{add-one}
-use lib.ListN.{length, take, length-set}
-use lib.Seq.{paste, paste-zero, paste-suc, length-paste, take-paste, take-length}
-use lib.IntN.{ℤ, pos}
-use Rattle.integer.proofs.Sizes.{called}
+use mathlib.Core.Path.{◌≡◌}
+use lib.ListN.{length}
+use lib.Seq.{paste}
 use Rattle.numbers.proofs.put.Given as goal
 
 abbrev pub invariant-loop-j : goal.invariant-loop-j

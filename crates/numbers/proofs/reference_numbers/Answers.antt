@@ -8,11 +8,8 @@ use Rattle.numbers.proofs.reference_numbers.Goals as goal
 
 pub returns : goal.returns
 returns c =
-    let last = c.before in
-    let first = last.before.before.before.before in
-    let marks = first.before.before.before.before.before in
-    let curves = marks.args.t.curves in
+    let curves = c.args.t.curves in
     filled_whole
-    (filled_more 120 120 (map mark_number curves.given) (length-map curves.given mark_number ∙ marks.mark_numbers-arg-2-1.given.0)
-    (filled_more 0 120 curves.reference first.put-arg-2-1.given.0 (filled_none 240 {out = replicate 240 (pos 0)} (length-replicate 240 (pos 0))) first.put.ensures)
-    (rw marks.mark_numbers-marks.ensures at last.put-2.ensures))
+    (filled_more 120 120 (map mark_number curves.given) (length-map curves.given mark_number ∙ c.mark_numbers-arg-2-1.given)
+    (filled_more 0 120 curves.reference c.put-arg-2-1.given (filled_none 240 {out = replicate 240 (pos 0)} (length-replicate 240 (pos 0))) c.put.ensures)
+    (rw c.mark_numbers-marks.ensures at c.put-2.ensures))

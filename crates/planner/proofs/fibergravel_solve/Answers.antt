@@ -2,6 +2,7 @@ use mathlib.Core.Path.{◌≡◌}
 use native.Mathlib.Omega.{arith}
 use mir.Syntax.{w64}
 use mir.Facts.{to_z_pos}
+use borrow.Author.Rules.{rules}
 use Rattle.integer.proofs.Sizes.{called}
 use Rattle.integer.proofs.Operand.{bytes_of}
 use Rattle.solver.specs.declared.Solved.{Solved}

@@ -6,9 +6,12 @@ use Rattle.primal.specs.Padded.{padded}
 use Rattle.ranges.specs.Ranges.{duty_range}
 use Rattle.ranges.proofs.Duties.{duty-held}
 use Rattle.ranges.proofs.first_ranges.Goals as goal
+use Rattle.ranges.proofs.first_ranges.Tie as tie
+use Rattle.ranges.proofs.first_ranges.Reads as reads
+use Rattle.ranges.proofs.first_ranges.Lts as lts
 
 -- the slopes of the padded multipliers are those of the lent ones
-same : (c : goal.After-padded_multipliers-y) (j : ℕ) →
+same : (c : lts.After-padded_multipliers tie.the-claims reads.Pre reads.Post tie.handed_clauses) (j : ℕ) →
     let a = c.args in
     duty_range a.t (padded c.padded_multipliers-y.result) a.gap j ≡ duty_range a.t (multipliers_of a.t.n a.multipliers.now) a.gap j
 same c = duty-held c.args.t c.requires.legal.0 c.padded_multipliers-y.ensures c.args.gap

@@ -12,15 +12,15 @@ residuals-e-requires c =
 
 pub ascend_by_band-requires : goal.ascend_by_band-requires
 ascend_by_band-requires c =
-    let s = c.before.before.before.before.before.before.before in
+    let s = c in
     let h = s.requires in
     let l = h.0.0 in
     let r = c.residuals-e.ensures in
-    let bounded = residuals_bounded s.args.t1.horizon l.a l.b (wider l.drift (omega arith)) l.start h.1.1 r in
-    (l, h.0.1, h.0.2, held-step s.args.t1 l h.1.0 r h.0.3 h.0.4 bounded)
+    let bounded = residuals_bounded s.args.t.horizon l.a l.b (wider l.drift (omega arith)) l.start h.1.1 r in
+    (l, h.0.1, h.0.2, held-step s.args.t l h.1.0 r h.0.3 h.0.4 bounded)
 
 pub returns : goal.returns
 returns c =
-    let s = c.before.before.before.before.before.before.before.before in
+    let s = c in
     let h = s.requires in
-    band_next s.args.t1 h.0.0 h.1.0 c.residuals-e.ensures s.args.ahead c.ascend_by_band.ensures
+    band_next s.args.t h.0.0 h.1.0 c.residuals-e.ensures s.args.ahead c.ascend_by_band.ensures

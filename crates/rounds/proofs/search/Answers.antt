@@ -35,35 +35,38 @@ use Rattle.rounds.proofs.Sums.{plan_cost_lem, floor-below}
 use Rattle.rounds.proofs.Weighing.{verdict-is, neither_early, proved_kept}
 use Rattle.rounds.proofs.Entered.{Begins, Running, running_start, running_next, open_is, whole_is}
 use Rattle.rounds.proofs.search.Goals as goal
+use Rattle.rounds.proofs.search.Tie as tie
+use Rattle.rounds.proofs.search.Reads as reads
+use Rattle.rounds.proofs.search.Lts as lts
 
 -- the places after each call of a round, its begin, and where the function starts
-abbrev begin : goal.At-loop-k → goal.Start
+abbrev begin : lts.At-loop tie.the-claims reads.Pre reads.Post goal.the-invariant-loop-k goal.the-decreases-loop-k tie.handed_clauses → lts.Start tie.the-claims reads.Pre reads.Post goal.the-invariant-loop-k goal.the-decreases-loop-k tie.handed_clauses
 begin c = c.before.before.before.before.before
 
-abbrev turn : goal.After-multipliers_ahead → goal.In-loop-k
-turn c = c.before.before.before.before.before
+abbrev turn : lts.After-multipliers_ahead tie.the-claims reads.Pre reads.Post goal.the-invariant-loop-k goal.the-decreases-loop-k tie.handed_clauses → lts.In-loop tie.the-claims reads.Pre reads.Post goal.the-invariant-loop-k goal.the-decreases-loop-k tie.handed_clauses
+turn c = c.before.before.before.before
 
-abbrev led : goal.After-minimise-costs → goal.After-multipliers_ahead
-led c = c.before.before.before.before.before.before.before
+abbrev led : lts.After-minimise tie.the-claims reads.Pre reads.Post goal.the-invariant-loop-k goal.the-decreases-loop-k tie.handed_clauses → lts.After-multipliers_ahead tie.the-claims reads.Pre reads.Post goal.the-invariant-loop-k goal.the-decreases-loop-k tie.handed_clauses
+led c = c.before.before.before.before.before.before
 
-abbrev minimised : goal.After-force → goal.After-minimise-costs
-minimised c = c.before.before.before.before.before.before
+abbrev minimised : lts.After-force tie.the-claims reads.Pre reads.Post goal.the-invariant-loop-k goal.the-decreases-loop-k tie.handed_clauses → lts.After-minimise tie.the-claims reads.Pre reads.Post goal.the-invariant-loop-k goal.the-decreases-loop-k tie.handed_clauses
+minimised c = c.before.before.before.before.before
 
-abbrev forced : goal.After-ascend-pull → goal.After-force
-forced c = c.before.before.before.before.before.before.before.before
+abbrev forced : lts.After-ascend tie.the-claims reads.Pre reads.Post goal.the-invariant-loop-k goal.the-decreases-loop-k tie.handed_clauses → lts.After-force tie.the-claims reads.Pre reads.Post goal.the-invariant-loop-k goal.the-decreases-loop-k tie.handed_clauses
+forced c = c.before.before.before.before.before.before.before
 
-abbrev climbed : goal.After-follow-followed → goal.After-ascend-pull
-climbed c = c.before.before.before.before.before.before.before.before
+abbrev climbed : lts.After-follow tie.the-claims reads.Pre reads.Post goal.the-invariant-loop-k goal.the-decreases-loop-k tie.handed_clauses → lts.After-ascend tie.the-claims reads.Pre reads.Post goal.the-invariant-loop-k goal.the-decreases-loop-k tie.handed_clauses
+climbed c = c.before.before.before.before.before.before.before
 
 pub loop-k-init : goal.loop-k-init
 loop-k-init c = rw (c.start-state.ensures.0, c.start-state.ensures.1) (running_start _)
 
-module _ (c : goal.In-loop-k) where
-  abbrev s : goal.Start
+module _ (c : lts.In-loop tie.the-claims reads.Pre reads.Post goal.the-invariant-loop-k goal.the-decreases-loop-k tie.handed_clauses) where
+  abbrev s : lts.Start tie.the-claims reads.Pre reads.Post goal.the-invariant-loop-k goal.the-decreases-loop-k tie.handed_clauses
   s = begin c.before
 
   abbrev t : Tape
-  t = s.args.t1
+  t = s.args.t
 
   legal : Legal t
   legal = s.requires.legal.0
@@ -88,16 +91,16 @@ module _ (c : goal.In-loop-k) where
 
 pub multipliers_ahead-requires : goal.multipliers_ahead-requires
 multipliers_ahead-requires c =
-    let b = c.before.before.before.before in
+    let b = c in
     let h = b.loop-k.invariant.held in
-    let l = small b in
-    rw (number_is b) (omega (arith, order), omega (arith, order), (legal b).steps.1, h.bounded, h.bounded_previous, refl)
+    let l = small b.before.before.before in
+    rw (number_is b.before.before.before) (omega (arith, order), omega (arith, order), (legal b.before.before.before).steps.1, h.bounded, h.bounded_previous, refl)
 
 -- step 1
-held : (c : goal.After-multipliers_ahead) →
+held : (c : lts.After-multipliers_ahead tie.the-claims reads.Pre reads.Post goal.the-invariant-loop-k goal.the-decreases-loop-k tie.handed_clauses) →
     let b = turn c in
     let x = b.loop-k in
-    HeldMultipliers (t b).n (t b).horizon (λ q i. ahead (pos x.k) (padded x.state.current q i) (padded x.state.previous q i)) c.multipliers_ahead.new.0
+    HeldMultipliers (t b).n (t b).horizon (λ q i. ahead (pos x.k) (padded x.state.current q i) (padded x.state.previous q i)) c.multipliers_ahead.new.next
 held c =
     let b = turn c in
     let h = b.loop-k.invariant.held in
@@ -105,21 +108,21 @@ held c =
 
 pub minimise-costs-requires : goal.minimise-costs-requires
 minimise-costs-requires c =
-    let d = c.before.before.before.before.before.before in
-    let b = turn d in
+    let d = c in
+    let b = turn d.before.before.before.before.before in
     let l = legal b in
-    (l.steps.1, refl, (s b).requires.rows_of.0.rows, l.a, l.b, (held d).bounded)
+    (l.steps.1, refl, (s b).requires.rows_of.0.rows, l.a, l.b, (held d.before.before.before.before.before).bounded)
 
 -- step 2
-module _ (c : goal.After-minimise-costs) where
-  abbrev here : goal.In-loop-k
+module _ (c : lts.After-minimise tie.the-claims reads.Pre reads.Post goal.the-invariant-loop-k goal.the-decreases-loop-k tie.handed_clauses) where
+  abbrev here : lts.In-loop tie.the-claims reads.Pre reads.Post goal.the-invariant-loop-k goal.the-decreases-loop-k tie.handed_clauses
   here = turn (led c)
 
   abbrev y : List ℤ
-  y = (led c).multipliers_ahead.new.0
+  y = (led c).multipliers_ahead.new.next
 
   abbrev v : List ℤ
-  v = c.minimise-costs.new.0
+  v = c.minimise-costs.new.v
 
   numbers : HeldPlan (t here).n (t here).m (t here).horizon (minimisers (problem_of (t here)) (padded y)) v
   numbers =
@@ -131,11 +134,11 @@ module _ (c : goal.After-minimise-costs) where
 
 pub force-requires : goal.force-requires
 force-requires c =
-    let d = c.before.before.before.before.before in
-    let l = legal (here d) in
-    (l.steps.1, refl, l.b, l.drift, (numbers d).bounded)
+    let d = c in
+    let l = legal (here d.before.before.before.before) in
+    (l.steps.1, refl, l.b, l.drift, (numbers d.before.before.before.before).bounded)
 
-few : (c : goal.After-force) → Bounded most_forced c.force.new.0
+few : (c : lts.After-force tie.the-claims reads.Pre reads.Post goal.the-invariant-loop-k goal.the-decreases-loop-k tie.handed_clauses) → Bounded most_forced c.force.new.forced
 few c =
     let d = minimised c in
     let l = legal (here d) in
@@ -143,7 +146,7 @@ few c =
 
 pub ascend-pull-requires : goal.ascend-pull-requires
 ascend-pull-requires c =
-    let f : goal.After-force = c.before.before.before.before.before.before.before in
+    let f : lts.After-force tie.the-claims reads.Pre reads.Post goal.the-invariant-loop-k goal.the-decreases-loop-k tie.handed_clauses = c.before.before.before.before.before.before.before in
     let d = minimised f in
     let b = here d in
     let l = legal b in
@@ -162,7 +165,7 @@ next_by_band-next-requires c =
 
 pub follow-followed-requires : goal.follow-followed-requires
 follow-followed-requires c =
-    let f : goal.After-force = forced c.before.before.before.before.before.before.before in
+    let f : lts.After-force tie.the-claims reads.Pre reads.Post goal.the-invariant-loop-k goal.the-decreases-loop-k tie.handed_clauses = forced c.before.before.before.before.before.before in
     let d = minimised f in
     let b = here d in
     let l = legal b in
@@ -171,14 +174,14 @@ follow-followed-requires c =
       bounded = (l.a, few f, l.start);
     }
 
-module _ (c : goal.After-follow-followed) where
-  abbrev at_forced : goal.After-force
+module _ (c : lts.After-follow tie.the-claims reads.Pre reads.Post goal.the-invariant-loop-k goal.the-decreases-loop-k tie.handed_clauses) where
+  abbrev at_forced : lts.After-force tie.the-claims reads.Pre reads.Post goal.the-invariant-loop-k goal.the-decreases-loop-k tie.handed_clauses
   at_forced = forced (climbed c)
 
-  abbrev at_minimised : goal.After-minimise-costs
+  abbrev at_minimised : lts.After-minimise tie.the-claims reads.Pre reads.Post goal.the-invariant-loop-k goal.the-decreases-loop-k tie.handed_clauses
   at_minimised = minimised at_forced
 
-  abbrev round : goal.In-loop-k
+  abbrev round : lts.In-loop tie.the-claims reads.Pre reads.Post goal.the-invariant-loop-k goal.the-decreases-loop-k tie.handed_clauses
   round = here at_minimised
 
   abbrev inputs : ℤ
@@ -236,7 +239,7 @@ module _ (c : goal.After-follow-followed) where
   abbrev following_plan : Plan
   following_plan = candidate (problem_of (t round)) (padded_plan (v at_minimised)).u
 
-  lends : Lends (t round) (s round).args.t3 (t round).a at_forced.force.last.0 (t round).start (t round).n (t round).horizon (v at_minimised)
+  lends : Lends (t round) (s round).args.table (t round).a at_forced.force.new.forced (t round).start (t round).n (t round).horizon (v at_minimised)
   lends = record {
     legal = legal round;
     states = refl;
@@ -249,7 +252,7 @@ module _ (c : goal.After-follow-followed) where
     blank = (numbers at_minimised).blank;
   }
 
-  followed_by : FollowedBy (t round) (padded_plan (v at_minimised)).u c.follow-followed.new.0 c.follow-followed.result
+  followed_by : FollowedBy (t round) (padded_plan (v at_minimised)).u c.follow-followed.new.plan c.follow-followed.result
   followed_by = c.follow-followed.ensures.followed_by (t round) lends
 
   cost_is : c.follow-followed.result.dropped ≡ false → inputs +ℤ following ≡ plan_cost (problem_of (t round)) following_plan
@@ -280,7 +283,7 @@ module _ (c : goal.After-follow-followed) where
       let r = (legal round).wanted in
       back_is (t round).wanted {B = 4294967295} (omega (arith, order, size_parts (t round).wanted)) (omega arith)
 
-  abbrev joined : goal.Joined-factored
+  abbrev joined : lts.Joined1 tie.the-claims reads.Pre reads.Post goal.the-invariant-loop-k goal.the-decreases-loop-k tie.handed_clauses
   joined = c.before.before.before.before.before.before.before
 
   -- step 4, by either command
@@ -308,7 +311,7 @@ overflow_add-k c = let l = small (round c.before.before.before.before.before.bef
 pub overflow_sub-least : goal.overflow_sub-least
 overflow_sub-least c = (gap c.before.before.before.before.before.before).fits
 
-abbrev follows : goal.After-may_answer → goal.After-follow-followed
+abbrev follows : lts.After-may_answer tie.the-claims reads.Pre reads.Post goal.the-invariant-loop-k goal.the-decreases-loop-k tie.handed_clauses → lts.After-follow tie.the-claims reads.Pre reads.Post goal.the-invariant-loop-k goal.the-decreases-loop-k tie.handed_clauses
 follows c = c.before.before.before.before.before.before.before
 
 pub weigh-verdict-requires : goal.weigh-verdict-requires
@@ -321,7 +324,7 @@ weigh-verdict-requires c =
       cost_bound = rw (cost f).is (size_cost f);
     }
 
-weighed : (c : goal.After-weigh-verdict) →
+weighed : (c : lts.After-weigh tie.the-claims reads.Pre reads.Post goal.the-invariant-loop-k goal.the-decreases-loop-k tie.handed_clauses) →
     let f = follows c.before.before in
     c.weigh-verdict.result ≡ verdict (t (round f)) (following_plan f) (padded (y (at_minimised f)))
 weighed c =
@@ -330,38 +333,38 @@ weighed c =
 
 pub returns-in-Proved : goal.returns-in-Proved
 returns-in-Proved c =
-    let v = c.before.before in
-    let w = v.before.before in
-    let f = follows w.before.before in
+    let v = c in
+    let w = v in
+    let f = follows w.before.before.before.before in
     let b = round f in
     let e = c.at_end.ensures in
     let gap = called v.in-Proved.gap c.in-Proved.known_told-1-own.given.0.1 in
     let told = v.in-Proved.is ∙ ap Proved (sym gap) in
-    let kept = proved_kept f.follow-followed.result.dropped _ _ _ _ (decided f ∙ sym (weighed w) ∙ told) in
-    let plan = subst (λ d. HeldUnless d (t b) (following_plan f) f.follow-followed.last.0) kept (followed_by f).held in
+    let kept = proved_kept f.follow-followed.result.dropped _ _ _ _ (decided f ∙ sym (weighed w.before.before) ∙ told) in
+    let plan = subst (λ d. HeldUnless d (t b) (following_plan f) f.follow-followed.new.plan) kept (followed_by f).held in
     rw (e.0, e.1, e.2)
-    (whole_is (legal b) b.loop-k.invariant (early b) (begins (at_minimised f)) _ (sym (weighed w) ∙ told) plan, (plan.bounded, (held (led (at_minimised f))).bounded))
+    (whole_is (legal b) b.loop-k.invariant (early b) (begins (at_minimised f)) _ (sym (weighed w.before.before) ∙ told) plan, (plan.bounded, (held (led (at_minimised f))).bounded))
 
 pub returns-in-Impossible : goal.returns-in-Impossible
 returns-in-Impossible c =
-    let w = c.before.before.before in
-    let f = follows w.before.before in
+    let w = c in
+    let f = follows w.before.before.before.before in
     let b = round f in
     let m = at_minimised f in
     let e = c.impossible.ensures in
     rw (e.0, e.1, e.2)
-    (whole_is (legal b) b.loop-k.invariant (early b) (begins m) (replicate 120 (pos 0)) (sym (weighed w) ∙ c.in-Impossible.is) tt, (zeros-bounded 120, (held (led m)).bounded))
+    (whole_is (legal b) b.loop-k.invariant (early b) (begins m) (replicate 120 (pos 0)) (sym (weighed w.before.before) ∙ c.in-Impossible.is) tt, (zeros-bounded 120, (held (led m)).bounded))
 
 pub loop-k-smaller : goal.loop-k-smaller
 loop-k-smaller c = let e = early (round (follows c.before.before)) in omega arith
 
 -- the round gave no answer, by its verdict or by the bound alone
-unanswered : (c : goal.Joined-may_answer) →
+unanswered : (c : lts.Joined2 tie.the-claims reads.Pre reads.Post goal.the-invariant-loop-k goal.the-decreases-loop-k tie.handed_clauses) →
     let f = follows c.before in
     verdict (t (round f)) (following_plan f) (padded (y (at_minimised f))) ≡ Neither
 unanswered c =
-    let a = c.before in
-    let f = follows a in
+    let a = c in
+    let f = follows a.before in
     let b = round f in
     ⊎_elim (λ w. sym (weighed (record { before = record { before = a; if2 = w.0 }; weigh = w.1 })) ∙ w.3.given.1)
     (λ w.

@@ -14,16 +14,12 @@ overflow_mul-horizon c =
 
 pub returns-then-plan-horizon : goal.returns-then-plan-horizon
 unfolding solving_on
-returns-then-plan-horizon c = rw (ne_eqb _ _ c.if-plan-horizon.true) (refl, (refl, refl))
+returns-then-plan-horizon c = rw (ne_eqb _ _ c.if-plan-horizon.true) (record { value = refl; plan_after = refl; multipliers_after = refl })
 
 pub returns-then-multipliers-horizon : goal.returns-then-multipliers-horizon
 unfolding solving_on
-returns-then-multipliers-horizon c = rw (eq-eqb _ _ c.if-plan-horizon.false, ne_eqb _ _ c.if-multipliers-horizon.true) (refl, (refl, refl))
+returns-then-multipliers-horizon c = rw (eq-eqb _ _ c.if-plan-horizon.false, ne_eqb _ _ c.if-multipliers-horizon.true) (record { value = refl; plan_after = refl; multipliers_after = refl })
 
 pub returns : goal.returns
 unfolding solving_on
-returns c =
-    let h = c.before.before in
-    let r = h.before.before.before in
-    let q = r.before.before in
-    rw (eq-eqb _ _ q.if-plan-horizon.false, eq-eqb _ _ q.if-multipliers-horizon.false, r.run_rounds-outcome.ensures.t_value) h.hand_over.ensures
+returns c = rw (eq-eqb _ _ c.if-plan-horizon.false, eq-eqb _ _ c.if-multipliers-horizon.false, c.run_rounds-outcome.ensures.t_value) c.hand_over.ensures

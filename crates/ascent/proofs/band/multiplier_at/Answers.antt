@@ -5,9 +5,12 @@ use borrow.Author.Tests.{lt-ltb, le-ltb}
 use Rattle.integer.proofs.Sizes.{called, element_is}
 use Rattle.ascent.proofs.Places.{row_small}
 use Rattle.ascent.proofs.band.multiplier_at.Goals as goal
+use Rattle.ascent.proofs.band.multiplier_at.Tie as tie
+use Rattle.ascent.proofs.band.multiplier_at.Reads as reads
+use Rattle.ascent.proofs.band.multiplier_at.Lts as lts
 
 -- the row of the place is one of 72
-row : (c : goal.Then-i-n) → let a = c.args in a.p / 6 * a.n + a.p % 6 < 72
+row : (c : lts.Then1 tie.the-claims reads.Pre reads.Post) → let a = c.args in a.p / 6 * a.n + a.p % 6 < 72
 row c =
     let s = c.before in
     row_small s.args.p s.args.n s.requires.0 s.requires.1 (omega arith)

@@ -12,8 +12,11 @@ use Rattle.steps.specs.Steps.{ascended}
 use Rattle.ascent.specs.Correction.{whole_nearest}
 use Rattle.ascent.proofs.Nearing.{not_finite-next, top_next, bottom_next, within, nearest-size}
 use Rattle.ascent.proofs.multiplier.next_multiplier.Goals as goal
+use Rattle.ascent.proofs.multiplier.next_multiplier.Tie as tie
+use Rattle.ascent.proofs.multiplier.next_multiplier.Reads as reads
+use Rattle.ascent.proofs.multiplier.next_multiplier.Lts as lts
 
-is_finite : (c : goal.Else-d) → finite c.args.d ≡ true
+is_finite : (c : lts.Else1 tie.the-claims reads.Pre reads.Post) → finite c.args.d ≡ true
 unfolding of_bits of_fields odd
 is_finite c = finite_of c.args.d c.if-d.false
 

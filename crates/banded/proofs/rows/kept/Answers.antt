@@ -2,6 +2,7 @@ use Prim.Native.Nat.{◌≤◌, ◌+◌, ◌-◌}
 use mathlib.Core.Path.{◌≡◌, refl}
 use native.Mathlib.Omega.{arith}
 use lib.ListN.{length, length-set}
+use borrow.Author.Rules.{rules}
 use Rattle.banded.specs.Floats.{float_at}
 use Rattle.banded.specs.Rows.{Holds}
 use Rattle.banded.proofs.Reduction.{kept_is}
@@ -20,4 +21,4 @@ pub returns : goal.returns
 returns c = λ band w a b h f.
     let l = c.loop-j in
     let e : l.j ≡ 11 = omega arith in
-    kept_is band w a c.args.t1 l.couplings c.args.factors b (rw e at l.invariant.2) h f
+    kept_is band w a c.args.x l.couplings c.args.factors b (rw e at l.invariant.2) h f

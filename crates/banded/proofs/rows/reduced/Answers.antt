@@ -2,6 +2,7 @@ use Prim.Native.Nat.{◌≤◌, ◌-◌}
 use mathlib.Core.Path.{◌≡◌}
 use native.Mathlib.Omega.{arith}
 use lib.ListN.{length, length-set}
+use borrow.Author.Rules.{rules}
 use Rattle.banded.specs.Rows.{Reduced}
 use Rattle.banded.proofs.Stores.{reduced_none, reduced_store}
 use Rattle.banded.proofs.rows.reduced.Goals as goal

@@ -2,6 +2,7 @@ use Prim.Native.Nat.{◌≤◌, ◌-◌}
 use mathlib.Core.Path.{◌≡◌}
 use native.Mathlib.Omega.{arith}
 use lib.ListN.{length, length-set}
+use borrow.Author.Rules.{rules}
 use Rattle.banded.proofs.Solving.{SidesTo, sides-none, sides-step}
 use Rattle.banded.proofs.solve.sides_of.Goals as goal
 

@@ -2,6 +2,7 @@ use Prim.Native.Nat.{◌≤◌, ◌-◌}
 use mathlib.Core.Path.{◌≡◌}
 use native.Mathlib.Omega.{arith}
 use lib.ListN.{length, length-set}
+use borrow.Author.Rules.{rules}
 use Rattle.banded.proofs.Solving.{SolvedTo, solved-none, solved-step}
 use Rattle.banded.proofs.solve.solved_up.Goals as goal
 

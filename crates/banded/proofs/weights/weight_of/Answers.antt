@@ -14,13 +14,11 @@ loop-s-init c = (omega arith, mod-lt _ (omega arith), mod-lt _ (omega arith), ze
 
 pub loop-s-preserved : goal.loop-s-preserved
 loop-s-preserved c =
-    let w = c.before.before.before.before in
-    let b = w.before.before.before in
-    let l = b.loop-s in
-    (omega arith, l.invariant.1, l.invariant.2, c.with_states-sum.ensures ∙ weight_more _ _ _ _ _ l.s l.sum _ l.invariant.3 w.with_inputs-more.ensures)
+    let l = c.loop-s in
+    (omega arith, l.invariant.1, l.invariant.2, c.with_states-sum.ensures ∙ weight_more _ _ _ _ _ l.s l.sum _ l.invariant.3 c.with_inputs-more.ensures)
 
 pub returns : goal.returns
 unfolding weights
 returns c =
-    let e : c.loop-s.s ≡ c.args.t1.horizon = omega arith in
+    let e : c.loop-s.s ≡ c.args.t.horizon = omega arith in
     rw e at c.loop-s.invariant.3

@@ -2,6 +2,7 @@ use Prim.Native.Nat.{◌≤◌, ◌+◌, ◌-◌}
 use mathlib.Core.Path.{◌≡◌}
 use native.Mathlib.Omega.{arith}
 use lib.ListN.{length, length-set}
+use borrow.Author.Rules.{rules}
 use Rattle.problem.specs.Model.{problem_of}
 use Rattle.banded.specs.Weights.{weights}
 use Rattle.banded.proofs.WeightLaws.{FilledTo, filled_none, filled_store, filled_all}

@@ -11,6 +11,9 @@ use Rattle.primal.specs.Padded.{padded}
 use Rattle.primal.proofs.ProductSizes.{dotted}
 use Rattle.dual.proofs.FloorSizes.{drift_at, size_drift_at}
 use Rattle.dual.proofs.floor.drifts.Goals as goal
+use Rattle.dual.proofs.floor.drifts.Tie as tie
+use Rattle.dual.proofs.floor.drifts.Reads as reads
+use Rattle.dual.proofs.floor.drifts.Lts as lts
 
 pub loop-k-init : goal.loop-k-init
 loop-k-init c = (omega arith, sym (sum-none _))
@@ -20,13 +23,13 @@ dot-total-requires c =
     let p = c.requires in
     (omega arith, omega (arith, c.dot-arg-1.given), record { each = λ q h. omega (arith, c.dot-arg-in-loop-k-1.given) }, p.2, p.1)
 
-abbrev turn : goal.After-dot-total → goal.In-loop-k
+abbrev turn : goal.After-dot-total → lts.In-loop tie.the-claims reads.Pre reads.Post goal.the-invariant-loop-k goal.the-decreases-loop-k
 turn c = c.before.before.before
 
 next : (c : goal.After-dot-total) →
     let l = (turn c).loop-k in
     let a = (turn c).args in
-    Formed (to_z w64 l.total +ℤ back c.dot-total.result) (sum (l.k + 1) (drift_at a.drift.now a.y.now))
+    Formed (to_z w64 l.total-bits +ℤ back c.dot-total.result) (sum (l.k + 1) (drift_at a.drift.now a.y.now))
 next c =
     let l = (turn c).loop-k in
     let a = (turn c).args in

@@ -7,8 +7,11 @@ use Rattle.dual.specs.Slopes.{most_slope}
 use Rattle.dual.proofs.FloorSizes.{floor_formed}
 use Rattle.dual.proofs.SlopeSizes.{slopes_bounded}
 use Rattle.dual.proofs.floor.floor_of.Goals as goal
+use Rattle.dual.proofs.floor.floor_of.Tie as tie
+use Rattle.dual.proofs.floor.floor_of.Reads as reads
+use Rattle.dual.proofs.floor.floor_of.Lts as lts
 
-bounded : (c : goal.After-slopes-s) → Bounded most_slope c.slopes-s.result
+bounded : (c : lts.After-slopes tie.the-claims reads.Pre reads.Post tie.handed_clauses) → Bounded most_slope c.slopes-s.result
 bounded c = let h = c.requires in slopes_bounded c.args.horizon h.horizon_bound.1 h.horizon_bound.2 h.tables.1 c.slopes-s.ensures
 
 total : (c : goal.After-offset) →

@@ -9,11 +9,14 @@ use Rattle.integer.specs.Sum.{sum}
 use Rattle.integer.proofs.Sum.{sum-none, added}
 use Rattle.integer.proofs.Sizes.{element_is, Formed, formed}
 use Rattle.dual.proofs.floor.sizes_of.Goals as goal
+use Rattle.dual.proofs.floor.sizes_of.Tie as tie
+use Rattle.dual.proofs.floor.sizes_of.Reads as reads
+use Rattle.dual.proofs.floor.sizes_of.Lts as lts
 
 pub loop-p-init : goal.loop-p-init
 loop-p-init c = (omega arith, sym (sum-none _))
 
-abbrev turn : goal.After-size → goal.In-loop-p
+abbrev turn : goal.After-size → lts.In-loop tie.the-claims reads.Pre reads.Post goal.the-invariant-loop-p goal.the-decreases-loop-p
 turn c = c.before.before
 
 size_is : (c : goal.After-size) →
@@ -29,7 +32,7 @@ overflow_cast-total c = (size_is c).fits
 next : (c : goal.After-size) →
     let l = (turn c).loop-p in
     let y = (turn c).args.y.now in
-    Formed (to_z w64 l.total +ℤ to_z w64 c.size.result) (sum (l.p + 1) (λ p. pos (nat_abs (at y p))))
+    Formed (to_z w64 l.total-bits +ℤ to_z w64 c.size.result) (sum (l.p + 1) (λ p. pos (nat_abs (at y p))))
 next c =
     let l = (turn c).loop-p in
     added l.p _ (λ j k. (turn c).requires.1.each j) (omega arith) l.invariant.1 (size_is c).is

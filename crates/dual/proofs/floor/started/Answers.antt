@@ -10,11 +10,14 @@ use Rattle.integer.proofs.Sizes.{called, back, element_is, Formed, formed}
 use Rattle.integer.proofs.Sum.{sum-none, added}
 use Rattle.dual.proofs.FloorSizes.{started_at, size_started_at}
 use Rattle.dual.proofs.floor.started.Goals as goal
+use Rattle.dual.proofs.floor.started.Tie as tie
+use Rattle.dual.proofs.floor.started.Reads as reads
+use Rattle.dual.proofs.floor.started.Lts as lts
 
 pub loop-j-init : goal.loop-j-init
 loop-j-init c = (omega arith, sym (sum-none _))
 
-abbrev turn : goal.After-total-1 → goal.In-loop-j
+abbrev turn : goal.After-total-1 → lts.In-loop tie.the-claims reads.Pre reads.Post goal.the-invariant-loop-j goal.the-decreases-loop-j
 turn c = c.before.before
 
 product : (c : goal.After-total-1) →
@@ -33,7 +36,7 @@ overflow_mul-total c = (product c).fits
 next : (c : goal.After-total-1) →
     let a = (turn c).args in
     let l = (turn c).loop-j in
-    Formed (to_z w64 l.total +ℤ back (back c.adjoint_at.result *ℤ back (at a.start.now l.j)))
+    Formed (to_z w64 l.total-bits +ℤ back (back c.adjoint_at.result *ℤ back (at a.start.now l.j)))
     (sum (l.j + 1) (started_at a.a.now a.start.now a.y.now))
 next c =
     let h = (turn c).requires in

@@ -15,14 +15,15 @@ use Rattle.problem.specs.Dual.{weightless, unweighted, conjugate, tilt, piece}
 use Rattle.problem.proofs.Piece.{conjugate-is}
 use Rattle.primal.specs.Padded.{term_of}
 use Rattle.dual.proofs.PieceSizes.{pushed, size-tested, sized, size-third, size-unweighted}
--- ---- Weight 0
--- ---- The three tests
--- ---- The third piece
--- ---- The needs
 use Rattle.dual.proofs.pieces.piece_of.Goals as goal
+use Rattle.dual.proofs.pieces.piece_of.Tie as tie
+use Rattle.dual.proofs.pieces.piece_of.Reads as reads
+use Rattle.dual.proofs.pieces.piece_of.Lts as lts
 
-abbrev term : goal.Start → Term
+abbrev term : lts.Start tie.the-claims reads.Pre reads.Post → Term
 term c = let a = c.args in term_of a.p a.low a.high a.r
+
+-- ---- Weight 0
 
 number_is : (c : goal.After-unweighted_of) → let a = c.args in back c.unweighted_of.result ≡ unweighted a.low a.high a.s
 number_is c =
@@ -36,25 +37,29 @@ linear c =
     formed (rw (to_z-of_z b.ranges.s, number_is c))
     (size-mul b.args.s (unweighted b.args.low b.args.high b.args.s) b.requires.1 (size-unweighted b.requires.0 b.args.s)) (omega arith)
 
-weighed : (c : goal.Else-p-le0) → weightless c.args.p ≡ false
+-- ---- The three tests
+
+weighed : (c : lts.Else1 tie.the-claims reads.Pre reads.Post) → weightless c.args.p ≡ false
 weighed c = rw (to_z-of_z c.ranges.p) at c.if-p-le0.false
 
-low_is : (c : goal.After-tilt_at) → let b = c.before.before in back c.tilt_at.result ≡ tilt (term b) b.args.s b.args.low
+low_is : (c : lts.After-tilt_at tie.the-claims reads.Pre reads.Post) → let b = c.before.before in back c.tilt_at.result ≡ tilt (term b) b.args.s b.args.low
 unfolding tilt
 low_is c =
     let f = c.ranges in
     called c.tilt_at.result c.tilt_at.type_inv ∙ rw (to_z-of_z f.p, to_z-of_z f.low, to_z-of_z f.r, to_z-of_z f.s) at c.tilt_at.ensures
 
-high_is : (c : goal.After-tilt_at-2) → let b = c.before.before.before.before in back c.tilt_at-2.result ≡ tilt (term b) b.args.s b.args.high
+high_is : (c : lts.After-tilt_at2 tie.the-claims reads.Pre reads.Post) → let b = c.before.before.before.before in back c.tilt_at-2.result ≡ tilt (term b) b.args.s b.args.high
 unfolding tilt
 high_is c =
     let f = c.ranges in
     called c.tilt_at-2.result c.tilt_at-2.type_inv ∙ rw (to_z-of_z f.p, to_z-of_z f.high, to_z-of_z f.r, to_z-of_z f.s) at c.tilt_at-2.ensures
 
-low_left : (c : goal.Else-tilt_at-ge0) → let b = c.before.before.before in le_z (pos 0) (tilt (term b) b.args.s b.args.low) ≡ false
+low_left : (c : lts.Else2 tie.the-claims reads.Pre reads.Post) → let b = c.before.before.before in le_z (pos 0) (tilt (term b) b.args.s b.args.low) ≡ false
 low_left c = rw (low_is c.before) at c.if-tilt_at-ge0.false
 
-abbrev start : goal.Else-tilt_at-le0 → goal.Start
+-- ---- The third piece
+
+abbrev start : goal.Else-tilt_at-le0 → lts.Start tie.the-claims reads.Pre reads.Post
 start c = c.before.before.before.before.before
 
 high_left : (c : goal.Else-tilt_at-le0) → let b = start c in le_z (tilt (term b) b.args.s b.args.high) (pos 0) ≡ false
@@ -66,10 +71,10 @@ one c = let w = weighed c.before.before.before.before in omega (arith, order)
 tested : (c : goal.Else-tilt_at-le0) → nat_abs (start c).args.s ≤ 80000 * nat_abs (start c).args.p
 tested c = size-tested (start c).requires.0 (start c).args.s (low_left c.before.before) (high_left c)
 
-product : (c : goal.Start) → let a = c.args in Formed (back a.s *ℤ back a.r) (a.s *ℤ a.r)
+product : (c : lts.Start tie.the-claims reads.Pre reads.Post) → let a = c.args in Formed (back a.s *ℤ back a.r) (a.s *ℤ a.r)
 product c = pushed c.args.s c.args.r c.requires.1 c.requires.0.reference
 
-divisor : (c : goal.Start) → Formed (pos 4 *ℤ back c.args.p) (pos 4 *ℤ c.args.p)
+divisor : (c : lts.Start tie.the-claims reads.Pre reads.Post) → Formed (pos 4 *ℤ back c.args.p) (pos 4 *ℤ c.args.p)
 divisor c = formed (rw (to_z-of_z c.ranges.p)) (size-mul (pos 4) c.args.p (le_refl 4) c.requires.0.penalty) (omega arith)
 
 quotient_is : (c : goal.After-square_quotient) → let a = (start c.before).args in back c.square_quotient.result ≡ conjugate a.p a.s
@@ -85,6 +90,8 @@ third c =
     let b = start c.before in
     let h = b.requires.0.penalty in
     formed (rw ((product b).is, quotient_is c)) (size-third b.requires.0 b.args.s (one c.before) (tested c.before)) (omega arith)
+
+-- ---- The needs
 
 pub overflow_mul-result : goal.overflow_mul-result
 overflow_mul-result c = (linear c).fits

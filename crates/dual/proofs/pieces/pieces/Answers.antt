@@ -11,11 +11,14 @@ use Rattle.problem.specs.Dual.{piece}
 use Rattle.primal.proofs.TermSums.{copied, place_added, term_sum}
 use Rattle.dual.proofs.PieceSizes.{size-piece}
 use Rattle.dual.proofs.pieces.pieces.Goals as goal
+use Rattle.dual.proofs.pieces.pieces.Tie as tie
+use Rattle.dual.proofs.pieces.pieces.Reads as reads
+use Rattle.dual.proofs.pieces.pieces.Lts as lts
 
 pub loop-p-init : goal.loop-p-init
 loop-p-init c = (omega arith, sym (sum-none _))
 
-abbrev turn : goal.After-piece_of-arg-in-loop-p-4-1 → goal.In-loop-p
+abbrev turn : goal.After-piece_of-arg-in-loop-p-4-1 → lts.In-loop tie.the-claims reads.Pre reads.Post goal.the-invariant-loop-p goal.the-decreases-loop-p
 turn c = c.before.before.before.before.before
 
 pub piece_of-total-requires : goal.piece_of-total-requires
@@ -27,7 +30,7 @@ piece_of-total-requires c =
 next : (c : goal.After-piece_of-total) →
     let l = (turn c.before).loop-p in
     let a = (turn c.before).args in
-    Formed (to_z w64 l.total +ℤ back c.piece_of-total.result)
+    Formed (to_z w64 l.total-bits +ℤ back c.piece_of-total.result)
     (term_sum piece a.penalty.now a.low.now a.high.now a.reference.now (at a.s.now) (l.p + 1))
 next c =
     let l = (turn c.before).loop-p in

@@ -2,6 +2,7 @@ use Prim.Native.Nat.{◌*◌, ◌-◌, ◌≤◌}
 use mathlib.Core.Path.{◌≡◌, ◌∙◌}
 use native.Mathlib.Omega.{arith}
 use lib.ListN.{length}
+use borrow.Author.Rules.{rules}
 use Rattle.integer.specs.Places.{Steps}
 use Rattle.integer.proofs.Places.{stretch_join, steps-none, steps_more}
 use Rattle.dual.proofs.ByPlace.{place_input, place_state}

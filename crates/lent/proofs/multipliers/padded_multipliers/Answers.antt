@@ -3,6 +3,7 @@ use mathlib.Core.Path.{◌≡◌, ◌∙◌}
 use native.Mathlib.Omega.{arith}
 use native.Mathlib.Nat.{mul-le-mul}
 use lib.ListN.{length}
+use borrow.Author.Rules.{rules}
 use Rattle.integer.specs.Places.{Steps}
 use Rattle.integer.proofs.Places.{step_room, steps-none, steps_more}
 use Rattle.problem.specs.Model.{multipliers_of}

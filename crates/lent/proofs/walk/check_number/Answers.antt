@@ -4,6 +4,9 @@ use lib.Signed.{lt_z}
 use mir.Facts.{to_z-of_z}
 use Rattle.lent.specs.Checks.{tested}
 use Rattle.lent.proofs.walk.check_number.Goals as goal
+use Rattle.lent.proofs.walk.check_number.Tie as tie
+use Rattle.lent.proofs.walk.check_number.Reads as reads
+use Rattle.lent.proofs.walk.check_number.Lts as lts
 
 pub returns-then-x-low : goal.returns-then-x-low
 unfolding tested
@@ -12,7 +15,7 @@ returns-then-x-low c =
     let below : lt_z s.args.x s.args.low ≡ true = rw (to_z-of_z s.ranges.x, to_z-of_z s.ranges.low) at c.if-x-low.true in
     rw below (rw (to_z-of_z s.ranges.x, to_z-of_z s.ranges.low) at c.fail.ensures)
 
-not_below : (c : goal.Else-x-low) → lt_z c.args.x c.args.low ≡ false
+not_below : (c : lts.Else1 tie.the-claims reads.Pre reads.Post) → lt_z c.args.x c.args.low ≡ false
 not_below c = rw (to_z-of_z c.ranges.x, to_z-of_z c.ranges.low) at c.if-x-low.false
 
 pub returns-then-high-x : goal.returns-then-high-x

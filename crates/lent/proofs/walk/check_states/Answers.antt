@@ -14,6 +14,9 @@ use Rattle.lent.specs.declared.walk.Check.TheVariants.{Passed}
 use Rattle.lent.specs.Checks.{first, state_check}
 use Rattle.lent.proofs.Steps.{first-none, first-passed, first-failed, first-each, state-size, state_check_at}
 use Rattle.lent.proofs.walk.check_states.Goals as goal
+use Rattle.lent.proofs.walk.check_states.Tie as tie
+use Rattle.lent.proofs.walk.check_states.Reads as reads
+use Rattle.lent.proofs.walk.check_states.Lts as lts
 
 pub loop-i-init : goal.loop-i-init
 loop-i-init c = (omega arith, first-none _, stretch_none _ _ _)
@@ -33,14 +36,14 @@ bounded c =
 pub model_sum-s-requires : goal.model_sum-s-requires
 model_sum-s-requires c =
     let p = c.requires in
-    (p.k_bound.0, omega arith, p.bounded.0, p.bounded.1, p.bounded.2, p.bounded.3, bounded c.before)
+    (p.k_bound.0, omega arith, p.bounded.0, p.bounded.1, p.bounded.2, p.bounded.3, bounded c)
 
 -- the plan's number of this turn
 abbrev number : goal.In-loop-i → ℤ
 number c = let a = c.args in at a.plan.now (a.from + c.loop-i.i)
 
-x_is : (c : goal.After-x-1) → let x = number c.before.before.before in Formed (to_z w32 (of_z w32 x)) x
-x_is c = widened (number c.before.before.before) c.x-1.given
+x_is : (c : goal.After-x-1) → let x = number c.before.before in Formed (to_z w32 (of_z w32 x)) x
+x_is c = widened (number c.before.before) c.x-1.given
 
 -- S, from the array as it was before the loop
 abbrev model : goal.In-loop-i → ℤ
@@ -48,7 +51,7 @@ model c =
     let a = c.args in
     model_at a.a.now a.b.now a.drift.now a.start.now a.v.now a.k c.loop-i.i
 
-model_is : (c : goal.After-model_sum-s) → back c.model_sum-s.result ≡ model c.before.before
+model_is : (c : lts.After-model_sum tie.the-claims reads.Pre reads.Post goal.the-invariant-loop-i goal.the-decreases-loop-i tie.handed_clauses) → back c.model_sum-s.result ≡ model c.before
 model_is c =
     let a = c.args in
     let l = c.loop-i in
@@ -63,19 +66,19 @@ overflow_cast-x c = (x_is c).fits
 pub check_state-check-requires : goal.check_state-check-requires
 check_state-check-requires c =
     let m = c.before.before.before in
-    let s = m.before.before.before.before in
+    let s = m.before in
     let p = s.requires in
     rw (model_is m) (omega (arith, size_model p.bounded.0 p.bounded.1 p.bounded.2 p.bounded.3 p.k_bound.4 s.args.k m.loop-i.i))
 
 -- the tests, by the numbers of the plan and of the tables
-tested : (c : goal.After-check_state-check) →
-    let turn = c.before.before.before.before.before.before in
+tested : (c : lts.After-check_state tie.the-claims reads.Pre reads.Post goal.the-invariant-loop-i goal.the-decreases-loop-i tie.handed_clauses) →
+    let turn = c.before.before.before.before.before in
     let a = turn.args in
     let q = 10 * a.k + (4 + turn.loop-i.i) in
     state_check a.k turn.loop-i.i (model turn) (at a.low.now q) (at a.high.now q) (number turn) ≡ c.check_state-check.result
 tested c =
     let x = c.before.before.before in
-    let turn = x.before.before.before in
+    let turn = x.before.before in
     let a = turn.args in
     let q = 10 * a.k + (4 + turn.loop-i.i) in
     sym
@@ -88,7 +91,7 @@ tested c =
 
 pub returns-in-Failed : goal.returns-in-Failed
 returns-in-Failed c =
-    let t = c.before.before.before in
+    let t = c.before in
     let l = t.loop-i in
     record {
       value = sym (first-failed l.i _ _ (omega arith) l.invariant.1 (tested t ∙ c.in-Failed.is));
@@ -97,7 +100,7 @@ returns-in-Failed c =
 
 pub loop-i-preserved : goal.loop-i-preserved
 loop-i-preserved c =
-    let t = c.before.before in
+    let t = c.before in
     let l = t.loop-i in (
       omega arith,
       first-passed l.i _ l.invariant.1 (tested t ∙ c.in-Passed.is),

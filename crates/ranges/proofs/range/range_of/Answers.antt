@@ -14,39 +14,41 @@ use Rattle.primal.specs.Padded.{term_of}
 use Rattle.ranges.specs.Range.{centre, reach, lowest, highest, range_of}
 use Rattle.ranges.proofs.Ends.{range_promise}
 use Rattle.ranges.proofs.EndSizes.{most_centre, size_double, size-centre, size-reach}
--- ---- What the code forms: the centre, the reach, 2P, and the two numbers that are divided by it
--- ---- The ends
--- ---- The needs
 use Rattle.ranges.proofs.range.range_of.Goals as goal
+use Rattle.ranges.proofs.range.range_of.Tie as tie
+use Rattle.ranges.proofs.range.range_of.Reads as reads
+use Rattle.ranges.proofs.range.range_of.Lts as lts
 
-abbrev term : goal.Start → Term
+abbrev term : lts.Start tie.the-claims reads.Pre reads.Post tie.handed_clauses → Term
 term c = let a = c.args in term_of a.p a.low a.high a.r
 
-weighed : (c : goal.Else-p-le0) → pos 1 ≼ c.args.p
+weighed : (c : lts.Else1 tie.the-claims reads.Pre reads.Post tie.handed_clauses) → pos 1 ≼ c.args.p
 weighed c = omega (arith, fitting, fit c.ranges.p)
 
-abbrev start : goal.After-reach_of-b → goal.Start
+-- ---- What the code forms: the centre, the reach, 2P, and the two numbers that are divided by it
+
+abbrev start : goal.After-reach_of-b → lts.Start tie.the-claims reads.Pre reads.Post tie.handed_clauses
 start c = c.before.before.before
 
 centre_is : (c : goal.After-centre_of-c) → let b = c.before.before in back c.centre_of-c.result ≡ centre (term b) b.args.s
 centre_is c =
     let f = c.ranges in
-    called c.centre_of-c.result c.centre_of-c.ok
+    called c.centre_of-c.result c.centre_of-c.type_inv
     ∙ rw (to_z-of_z f.p, to_z-of_z f.low, to_z-of_z f.high, to_z-of_z f.r, to_z-of_z f.s) at c.centre_of-c.ensures
 
 reach_is : (c : goal.After-reach_of-b) → let a = (start c).args in back c.reach_of-b.result ≡ reach a.p a.gap
 reach_is c =
     let f = (start c).ranges in
-    called c.reach_of-b.result c.reach_of-b.ok ∙ rw (to_z-of_z f.p, to_z-of_z f.gap) at c.reach_of-b.ensures
+    called c.reach_of-b.result c.reach_of-b.type_inv ∙ rw (to_z-of_z f.p, to_z-of_z f.gap) at c.reach_of-b.ensures
 
-double : (c : goal.Start) → Formed (pos 2 *ℤ back c.args.p) (pos 2 *ℤ c.args.p)
+double : (c : lts.Start tie.the-claims reads.Pre reads.Post tie.handed_clauses) → Formed (pos 2 *ℤ back c.args.p) (pos 2 *ℤ c.args.p)
 double c = formed (rw (to_z-of_z c.ranges.p)) (size_double c.args.p c.requires.0.penalty) (omega arith)
 
 double_one : (c : goal.After-reach_of-b) → pos 1 ≼ pos 2 *ℤ (start c).args.p
 double_one c = let p = (start c).args.p in omega (arith, order, weighed c.before.before, times (pos 2) p)
 
 module _ (c : goal.After-reach_of-b) where
-  abbrev s : goal.Start
+  abbrev s : lts.Start tie.the-claims reads.Pre reads.Post tie.handed_clauses
   s = start c
 
   abbrev middle : ℤ
@@ -67,6 +69,8 @@ module _ (c : goal.After-reach_of-b) where
   above : Formed (back c.centre_of-c.result +ℤ back c.reach_of-b.result) (middle +ℤ far)
   above = formed (rw (centre_is c.before, reach_is c)) (size-add middle far middle_size far_size) (omega arith)
 
+-- ---- The ends
+
 low_is : (c : goal.After-limit) →
     let b = start c.before.before in
     let t = term b in
@@ -76,8 +80,8 @@ low_is c =
     let q = c.before in
     let r = q.before in
     let f = (start r).ranges in
-    let e = called q.quotient.result q.quotient.ok ∙ rw ((below r).is, (double (start r)).is) at q.quotient.ensures in
-    called c.limit.result c.limit.ok ∙ rw (e, to_z-of_z f.low, to_z-of_z f.high) at c.limit.ensures
+    let e = called q.quotient.result q.quotient.type_inv ∙ rw ((below r).is, (double (start r)).is) at q.quotient.ensures in
+    called c.limit.result c.limit.type_inv ∙ rw (e, to_z-of_z f.low, to_z-of_z f.high) at c.limit.ensures
 
 high_is : (c : goal.After-limit-2) →
     let b = start c.before.before.before.before in
@@ -88,15 +92,19 @@ high_is c =
     let q = c.before in
     let r = q.before.before.before in
     let f = (start r).ranges in
-    let e = called q.quotient_up.result q.quotient_up.ok ∙ rw ((above r).is, (double (start r)).is) at q.quotient_up.ensures in
-    called c.limit-2.result c.limit-2.ok ∙ rw (e, to_z-of_z f.low, to_z-of_z f.high) at c.limit-2.ensures
+    let e = called q.quotient_up.result q.quotient_up.type_inv ∙ rw ((above r).is, (double (start r)).is) at q.quotient_up.ensures in
+    called c.limit-2.result c.limit-2.type_inv ∙ rw (e, to_z-of_z f.low, to_z-of_z f.high) at c.limit-2.ensures
+
+-- ---- The needs
 
 pub returns-then-p-le0 : goal.returns-then-p-le0
 unfolding range_of
 returns-then-p-le0 c =
     let b = c.before in
-    let test = rw (to_z-of_z b.ranges.p) at c.if-p-le0.taken in
-    range_promise (term b) b.args.s b.args.gap b.requires.2 (rw (to_z-of_z b.ranges.low, to_z-of_z b.ranges.high, test))
+    let test = rw (to_z-of_z b.ranges.p) at c.if-p-le0.true in
+    let p = range_promise (term b) b.args.s b.args.gap {range = record { low = back b.args.low; high = back b.args.high }} b.requires.2
+    (rw (to_z-of_z b.ranges.low, to_z-of_z b.ranges.high, test)) in
+    record { value = p.0; holds_near = p.1.0; tightest = p.1.1 }
 
 pub reach_of-b-requires : goal.reach_of-b-requires
 reach_of-b-requires c =
@@ -126,4 +134,6 @@ returns c =
     let r = l.before.before in
     let b = start r in
     let test = not_at-most b.args.p (pos 0) (let w = weighed r.before.before in omega (arith, order)) in
-    range_promise (term b) b.args.s b.args.gap b.requires.2 (rw (low_is l, high_is c, test))
+    let p = range_promise (term b) b.args.s b.args.gap {range = record { low = back l.limit.result; high = back c.limit-2.result }} b.requires.2
+    (rw (low_is l, high_is c, test)) in
+    record { value = p.0; holds_near = p.1.0; tightest = p.1.1 }

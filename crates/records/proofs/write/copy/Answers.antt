@@ -1,10 +1,10 @@
-use Prim.Native.Nat.{◌-◌, ◌≤◌, zero-le}
+use Prim.Native.Nat.{zero-le}
 use mathlib.Core.Path.{◌≡◌, refl, ◌∙◌}
 use native.Mathlib.Omega.{arith}
 use native.Mathlib.Numerals.{add-one}
-use lib.ListN.{length, get_or, take}
+use lib.ListN.{length, get_or}
 use lib.Seq.{take_all, take-suc}
-use Rattle.integer.proofs.Filled.{Filled, filled_none, filled_whole, filled_next}
+use Rattle.integer.proofs.Filled.{filled_none, filled_whole, filled_next}
 use Rattle.records.proofs.write.copy.Goals as goal
 
 pub loop-i-init : goal.loop-i-init

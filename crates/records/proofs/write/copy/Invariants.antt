@@ -1,10 +1,6 @@
-use Prim.Native.Nat.{◌-◌, ◌≤◌, zero-le}
-use mathlib.Core.Path.{◌≡◌, refl, ◌∙◌}
-use native.Mathlib.Omega.{arith}
-use native.Mathlib.Numerals.{add-one}
-use lib.ListN.{length, get_or, take}
-use lib.Seq.{take_all, take-suc}
-use Rattle.integer.proofs.Filled.{Filled, filled_none, filled_whole, filled_next}
+use Prim.Native.Nat.{◌-◌, ◌≤◌}
+use lib.ListN.{length, take}
+use Rattle.integer.proofs.Filled.{Filled}
 use Rattle.records.proofs.write.copy.Given as goal
 
 abbrev pub invariant-loop-i : goal.invariant-loop-i

@@ -1,8 +1,8 @@
-use Prim.Native.Nat.{◌-◌, ◌≤◌, zero-le}
+use Prim.Native.Nat.{zero-le}
 use mathlib.Core.Path.{◌≡◌, refl}
 use native.Mathlib.Omega.{arith}
-use lib.ListN.{length, replicate, replicate-append-replicate}
-use Rattle.integer.proofs.Filled.{Filled, filled_none, filled_whole, filled_next}
+use lib.ListN.{length, replicate-append-replicate}
+use Rattle.integer.proofs.Filled.{filled_none, filled_whole, filled_next}
 use Rattle.records.proofs.write.fill.Goals as goal
 
 pub loop-i-init : goal.loop-i-init

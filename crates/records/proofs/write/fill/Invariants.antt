@@ -1,8 +1,6 @@
-use Prim.Native.Nat.{◌-◌, ◌≤◌, zero-le}
-use mathlib.Core.Path.{◌≡◌, refl}
-use native.Mathlib.Omega.{arith}
-use lib.ListN.{length, replicate, replicate-append-replicate}
-use Rattle.integer.proofs.Filled.{Filled, filled_none, filled_whole, filled_next}
+use Prim.Native.Nat.{◌-◌, ◌≤◌}
+use lib.ListN.{length, replicate}
+use Rattle.integer.proofs.Filled.{Filled}
 use Rattle.records.proofs.write.fill.Given as goal
 
 abbrev pub invariant-loop-i : goal.invariant-loop-i

@@ -1,5 +1,5 @@
 use Prim.Native.Nat.{ℕ, ◌+◌, ◌-◌, ◌*◌, ◌≤◌}
-use mathlib.Core.Path.{◌≡◌, refl, sym, ap, ◌∙◌}
+use mathlib.Core.Path.{◌≡◌, refl, sym}
 use mathlib.Core.List.{List, ◌++◌}
 use native.Mathlib.Omega.{arith}
 use lib.ListN.{length, take}
@@ -10,92 +10,83 @@ use borrow.Rule.Slice.PartMut.{put_mid}
 use Rattle.integer.proofs.Filled.{Filled, filled_none, filled_part, next_part, filled_end}
 use Rattle.integer.proofs.Places.{take-bounded}
 use Rattle.integer.proofs.Sizes.{wider}
-use Rattle.records.specs.Readers.{service_length, number_bytes, laboratory_bytes, sized, Proved}
+use Rattle.records.specs.declared.Sizes.{Sizes}
+use Rattle.records.specs.Readers.{plan_count, service_length, number_bytes, laboratory_bytes, sized, Proved}
 use Rattle.records.proofs.Bytes.{number_bytes_length, sized-length, service_split, duties_room, proved-length}
--- ---- The service's slice, part by part
 use Rattle.records.proofs.write.write_proved.Goals as goal
 
 -- the plan has its first duties
-first_room : (s : goal.Start) → s.args.sizes.m ≤ length s.args.plan.now
-first_room s = let f = s.requires.2.outcome in rw f.3.long (duties_room s.args.sizes f.0)
+first_room : (z : Sizes) {p : ℕ} → 1 ≤ z.horizon → p ≡ plan_count z → z.m ≤ p
+first_room z h e = rw e (duties_room z h)
 
-abbrev duties : goal.Start → List ℤ
-duties s = take s.args.sizes.m s.args.plan.now
+-- ---- The service's slice, part by part
 
-few : (s : goal.Start) → length (duties s) ≤ 4
-few s = omega (arith, length-take-le s.args.sizes.m s.args.plan.now (first_room s), s.requires.2.sizes.inputs)
+module _
+    (z : Sizes) (rounds : ℕ) (gap : ℤ) (plan : List ℤ) (laboratory service new : List ℕ) (some : 1 ≤ z.horizon) (m : z.m ≤ 4) (long : length plan ≡ plan_count z)
+    (l : laboratory ≡ laboratory_bytes (Proved rounds gap (take z.m plan))) (h : length service ≡ service_length z) (e : new ≡ sized laboratory z) where
+  after_sized : Filled (service_length z) 19 (sized (laboratory_bytes (Proved rounds gap (take z.m plan))) z) (put_mid 0 19 service new)
+  after_sized =
+      let first = laboratory_bytes (Proved rounds gap (take z.m plan)) in
+      let few = length-take-le z.m plan (first_room z some long) in
+      filled_part 0 19 19 (sized first z) refl (omega arith) (sized-length first z (proved-length rounds gap (take z.m plan) (omega arith)))
+      (filled_none (service_length z) {out = service} h) (rw (← l) e)
 
--- the service's slice has room for the plan, and ends with the multipliers
-room : (s : goal.Start) → let p = length s.args.plan.now in let q = length s.args.multipliers.now in
-    (19 + 4 * p ≤ service_length s.args.sizes) × (19 + 4 * p + 4 * q ≡ service_length s.args.sizes)
-room s = let f = s.requires.2.outcome in (omega (arith, service_split s.args.sizes, f.3.long), omega (arith, service_split s.args.sizes, f.3.long, f.4.long))
-
-abbrev start : goal.After-write_laboratory → goal.Start
-start c = c.before.before.before.before.before
-
-abbrev laboratory_of : goal.After-write_sized → goal.After-write_laboratory
-laboratory_of c = c.before.before.before.before.before
-
-abbrev sized_of : goal.After-write_numbers → goal.After-write_sized
-sized_of c = c.before.before.before.before
-
-abbrev laboratory : goal.Start → List ℕ
-laboratory s = laboratory_bytes (Proved s.args.rounds s.args.gap (duties s))
-
-after_laboratory : (c : goal.After-write_laboratory) → c.write_laboratory.new.0 ≡ laboratory (start c)
-after_laboratory c = rw (to_z-of_z (start c).ranges.gap) at c.write_laboratory.ensures
-
-after_sized : (c : goal.After-write_sized) → let s = start (laboratory_of c) in let z = s.args.sizes in
-    Filled (service_length z) 19 (sized (laboratory s) z) (put_mid 0 19 s.args.service.now c.write_sized.new.0)
-after_sized c =
-    let first = laboratory_of c in
-    let s = start first in
-    let z = s.args.sizes in
-    filled_part 0 19 19 (sized (laboratory s) z) refl (omega arith) (sized-length (laboratory s) z (proved-length s.args.rounds s.args.gap (duties s) (few s)))
-    (filled_none (service_length z) {out = s.args.service.now} s.requires.1) (c.write_sized.ensures ∙ ap (λ (l : List ℕ). sized l z) (after_laboratory first))
-
-after_plan : (c : goal.After-write_numbers) → let s = start (laboratory_of (sized_of c)) in let z = s.args.sizes in let p = length s.args.plan.now in
-    Filled (service_length z) (19 + 4 * p) (sized (laboratory s) z ++ number_bytes 4 s.args.plan.now)
-    (put_mid 19 (19 + 4 * p - 19) (put_mid 0 19 s.args.service.now (sized_of c).write_sized.new.0) c.write_numbers.new.0)
-after_plan c =
-    let s = start (laboratory_of (sized_of c)) in
-    let plan = s.args.plan.now in
-    filled_part 19 (19 + 4 * length plan) (4 * length plan) (number_bytes 4 plan) refl (room s).0 (number_bytes_length 4 plan) (after_sized (sized_of c)) c.write_numbers.ensures
+  after_plan : (part : List ℕ) → part ≡ number_bytes 4 plan → let p = length plan in
+      Filled (service_length z) (19 + 4 * p) (sized (laboratory_bytes (Proved rounds gap (take z.m plan))) z ++ number_bytes 4 plan)
+      (put_mid 19 (19 + 4 * p - 19) (put_mid 0 19 service new) part)
+  after_plan part k =
+      filled_part 19 (19 + 4 * length plan) (4 * length plan) (number_bytes 4 plan) refl (omega (arith, service_split z)) (number_bytes_length 4 plan) after_sized k
 
 pub slice_bounds-write_laboratory-end : goal.slice_bounds-write_laboratory-end
-slice_bounds-write_laboratory-end c = sym (length-take-le _ _ (first_room c.before.before.before.before))
+slice_bounds-write_laboratory-end c = let f = c.requires.2.outcome in sym (length-take-le _ _ (first_room c.args.sizes f.0 f.3.long))
 
 pub write_laboratory-requires : goal.write_laboratory-requires
 write_laboratory-requires c =
-    let s = c.before.before.before.before in
-    (s.requires.0, few s, take-bounded s.args.sizes.m s.args.plan.now s.requires.2.outcome.3.within)
+    let f = c.requires.2.outcome in
+    let few = length-take-le c.args.sizes.m c.args.plan.now (first_room c.args.sizes f.0 f.3.long) in
+    (c.requires.0, omega (arith, c.requires.2.sizes.inputs), take-bounded c.args.sizes.m c.args.plan.now f.3.within)
 
 pub write_numbers-requires : goal.write_numbers-requires
 write_numbers-requires c =
-    let sized-part = c.before.before.before in
-    let s = start (laboratory_of sized-part) in
-    let p = length s.args.plan.now in
-    (next_part 19 (19 + 4 * p) (4 * p) refl (room s).0 (after_sized sized-part), refl, omega arith, wider s.requires.2.outcome.3.within (omega arith))
+    let a = c.args in
+    let z = a.sizes in
+    let f = c.requires.2 in
+    let o = f.outcome in
+    let p = length a.plan.now in
+    let l = rw (to_z-of_z c.ranges.gap) at c.write_laboratory.ensures in
+    let s = after_sized z a.rounds a.gap a.plan.now _ a.service.now _ o.0 f.sizes.inputs o.3.long l c.requires.1 c.write_sized.ensures in
+    (next_part 19 (19 + 4 * p) (4 * p) refl (omega (arith, service_split z, o.3.long)) s, refl, omega arith, wider o.3.within (omega arith))
 
 pub write_numbers-requires-2 : goal.write_numbers-requires-2
 write_numbers-requires-2 c =
-    let plan-part = c.before.before.before in
-    let s = start (laboratory_of (sized_of plan-part)) in
-    let p = length s.args.plan.now in
-    let q = length s.args.multipliers.now in
-    (next_part (19 + 4 * p) (19 + 4 * p + 4 * q) (4 * q) refl (omega (arith, (room s).1)) (after_plan plan-part), refl, omega arith, wider s.requires.2.outcome.4.within (omega arith))
+    let a = c.args in
+    let z = a.sizes in
+    let f = c.requires.2 in
+    let o = f.outcome in
+    let p = length a.plan.now in
+    let q = length a.multipliers.now in
+    let l = rw (to_z-of_z c.ranges.gap) at c.write_laboratory.ensures in
+    let s = after_plan z a.rounds a.gap a.plan.now _ a.service.now _ o.0 f.sizes.inputs o.3.long l c.requires.1 c.write_sized.ensures _ c.write_numbers.ensures in (
+      next_part (19 + 4 * p) (19 + 4 * p + 4 * q) (4 * q) refl (omega (arith, service_split z, o.3.long, o.4.long)) s,
+      refl,
+      omega arith,
+      wider o.4.within (omega arith),
+    )
 
 pub returns : goal.returns
 returns c =
-    let last = c.before.before in
-    let plan-part = last.before.before.before.before in
-    let first = laboratory_of (sized_of plan-part) in
-    let s = start first in
-    let p = length s.args.plan.now in
-    let y = s.args.multipliers.now in
+    let a = c.args in
+    let z = a.sizes in
+    let f = c.requires.2 in
+    let o = f.outcome in
+    let p = length a.plan.now in
+    let y = a.multipliers.now in
     let q = length y in
-    let f = filled_part (19 + 4 * p) (19 + 4 * p + 4 * q) (4 * q) (number_bytes 4 y) refl (omega (arith, (room s).1)) (number_bytes_length 4 y) (after_plan plan-part) last.write_numbers-2.ensures in
+    let l = rw (to_z-of_z c.ranges.gap) at c.write_laboratory.ensures in
+    let s = after_plan z a.rounds a.gap a.plan.now _ a.service.now _ o.0 f.sizes.inputs o.3.long l c.requires.1 c.write_sized.ensures _ c.write_numbers.ensures in
+    let e : 19 + 4 * p + 4 * q ≡ service_length z = omega (arith, service_split z, o.3.long, o.4.long) in
+    let g = filled_part (19 + 4 * p) (19 + 4 * p + 4 * q) (4 * q) (number_bytes 4 y) refl (omega arith) (number_bytes_length 4 y) s c.write_numbers-2.ensures in
     record {
-      laboratory_after = after_laboratory first;
-      service_after = filled_end (room s).1 f;
+      laboratory_after = l;
+      service_after = filled_end e g;
     }

@@ -6,7 +6,7 @@ use borrow.Rule.Slice.PartMut.{mid_of}
 use Rattle.primal.specs.Padded.{padded}
 use Rattle.primal.specs.Lent.{listed}
 use Rattle.primal.proofs.Lent.{length-listed}
-use Rattle.solver.proofs.Written.{WrittenSteps, written_none, written_room, written_more, written_whole, written_part}
+use Rattle.solver.proofs.Written.{written_none, written_room, written_more, written_whole, written_part}
 use Rattle.solver.proofs.write.write_multipliers.Goals as goal
 
 -- the next step lies within the slice, and is n long

@@ -1,12 +1,7 @@
-use Prim.Native.Nat.{ℕ, ◌≤◌, ◌+◌, ◌-◌}
-use mathlib.Core.Path.{◌≡◌, ◌∙◌, ap}
-use native.Mathlib.Omega.{arith}
-use lib.ListN.{length}
-use borrow.Rule.Slice.PartMut.{mid_of}
+use Prim.Native.Nat.{◌≤◌, ◌-◌}
 use Rattle.primal.specs.Padded.{padded}
 use Rattle.primal.specs.Lent.{listed}
-use Rattle.primal.proofs.Lent.{length-listed}
-use Rattle.solver.proofs.Written.{WrittenSteps, written_none, written_room, written_more, written_whole, written_part}
+use Rattle.solver.proofs.Written.{WrittenSteps}
 use Rattle.solver.proofs.write.write_multipliers.Given as goal
 
 abbrev pub invariant-loop-k : goal.invariant-loop-k

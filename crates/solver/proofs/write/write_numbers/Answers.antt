@@ -1,10 +1,9 @@
-use Prim.Native.Nat.{◌≤◌, ◌+◌, ◌-◌}
+use Prim.Native.Nat.{◌+◌}
 use mathlib.Core.Path.{◌∙◌}
 use native.Mathlib.Omega.{arith}
-use lib.ListN.{length}
 use lib.IntN.{pos}
 use mir.Facts.{to_z-of_z}
-use Rattle.integer.specs.Places.{at, Stretch}
+use Rattle.integer.specs.Places.{at}
 use Rattle.integer.proofs.Sizes.{called, bounded_fits}
 use Rattle.integer.proofs.Places.{stretch_none, fill_store, fill_at}
 use Rattle.primal.proofs.Lent.{listed-whole}

@@ -1,13 +1,6 @@
 use Prim.Native.Nat.{◌≤◌, ◌+◌, ◌-◌}
-use mathlib.Core.Path.{◌∙◌}
-use native.Mathlib.Omega.{arith}
 use lib.ListN.{length}
-use lib.IntN.{pos}
-use mir.Facts.{to_z-of_z}
 use Rattle.integer.specs.Places.{at, Stretch}
-use Rattle.integer.proofs.Sizes.{called, bounded_fits}
-use Rattle.integer.proofs.Places.{stretch_none, fill_store, fill_at}
-use Rattle.primal.proofs.Lent.{listed-whole}
 use Rattle.solver.proofs.write.write_numbers.Given as goal
 
 abbrev pub invariant-loop-j : goal.invariant-loop-j

@@ -1,11 +1,9 @@
-use Prim.Native.Nat.{◌≤◌, ◌+◌, ◌-◌}
-use mathlib.Core.List.{◌++◌}
+use Prim.Native.Nat.{◌≤◌, ◌+◌}
 use native.Mathlib.Omega.{arith}
 use lib.ListN.{length}
 use Rattle.primal.specs.Padded.{padded_plan}
-use Rattle.primal.specs.Lent.{listed}
 use Rattle.primal.proofs.Lent.{length-step}
-use Rattle.solver.proofs.Written.{WrittenSteps, written_none, written_room, written_more, written_whole, written_part}
+use Rattle.solver.proofs.Written.{written_none, written_room, written_more, written_whole, written_part}
 use Rattle.solver.proofs.write.write_plan.Goals as goal
 
 -- the next step lies within the slice

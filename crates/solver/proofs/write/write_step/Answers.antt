@@ -1,5 +1,6 @@
 use mathlib.Core.Path.{◌∙◌, ap, fun_ext}
 use native.Mathlib.Omega.{arith}
+use borrow.Author.Rules.{rules}
 use Rattle.integer.specs.Places.{at}
 use Rattle.integer.proofs.Sizes.{wider}
 use Rattle.primal.specs.Lent.{listed}

@@ -1,6 +1,7 @@
 use mathlib.Core.Path.{sym, ◌∙◌}
 use native.Mathlib.Omega.{arith}
 use borrow.Author.Tests.{lt-ltb, le-ltb}
+use borrow.Author.Rules.{rules}
 use Rattle.tape.specs.Reading.{obey_size}
 use Rattle.tape.proofs.reader.check_size.Goals as goal
 

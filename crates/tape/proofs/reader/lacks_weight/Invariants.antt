@@ -1,16 +1,11 @@
-use Prim.Native.Nat.{ℕ, ◌+◌, ◌-◌, ◌≤◌}
-use mathlib.Core.Path.{◌≡◌, refl, sym}
+use Prim.Native.Nat.{ℕ, ◌-◌, ◌≤◌}
+use mathlib.Core.Path.{◌≡◌}
 use mathlib.Core.Bool.{Bool, false}
 use mathlib.Core.List.{List}
-use native.Mathlib.Omega.{arith}
 use lib.IntN.{ℤ, pos}
 use lib.Signed.{le_z}
-use borrow.Author.Tests.{not-true, not-false}
 use Rattle.integer.specs.Places.{at}
 use Rattle.integer.specs.Tests.{any}
-use Rattle.integer.proofs.Sizes.{called}
-use Rattle.integer.proofs.Tests.{any_at, any_more}
-use Rattle.tape.specs.Reading.{lacks_weight}
 use Rattle.tape.proofs.reader.lacks_weight.Given as goal
 
 -- the weight of a column is 0

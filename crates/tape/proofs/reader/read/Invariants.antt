@@ -1,20 +1,7 @@
-use Prim.Native.Nat.{◌+◌, ◌-◌}
-use mathlib.Core.Path.{◌≡◌, refl, ap, ◌∙◌}
-use mathlib.Core.Bool.{Bool, true}
-use mathlib.Core.List.{List}
-use native.Mathlib.Omega.{arith}
-use lib.ListN.{set}
-use Rattle.integer.proofs.Sizes.{called}
-use Rattle.commands.specs.declared.Entry.{Entry}
-use Rattle.commands.specs.Format.{bytes_of, place_of}
+use mathlib.Core.Path.{◌≡◌}
 use Rattle.commands.specs.Room.{SmallSizes}
-use Rattle.tape.specs.declared.reader.Head.{Head}
-use Rattle.tape.specs.declared.reader.Step.{Step}
-use Rattle.tape.specs.declared.reader.Step.TheVariants.{Stored}
-use Rattle.tape.specs.Tape.{with}
-use Rattle.tape.specs.Reading.{Reader, next, outcome, read_from, reading}
-use Rattle.tape.specs.Parts.{Arrays, arrays_by, arrays_of, head_of, tape_by, reader_by, after, Fitting}
-use Rattle.tape.proofs.Steps.{SmallTape, small_opened, small_next, read_step}
+use Rattle.tape.specs.Reading.{read_from, reading}
+use Rattle.tape.specs.Parts.{arrays_by, reader_by}
 use Rattle.tape.proofs.reader.read.Given as goal
 
 abbrev pub invariant-loop-left : goal.invariant-loop-left

@@ -5,6 +5,7 @@ use native.Mathlib.Omega.{arith}
 use lib.ListN.{length, length-append}
 use borrow.Fn.Kinds.{In}
 use borrow.Fn.PlainCycle.{Measures, is, falls, and}
+use borrow.Author.Rules.{rules}
 use Rattle.slip_text.specs.Decimal.{decimal}
 use Rattle.slip_text.proofs.Appending.{appended_then}
 use Rattle.slip_text.proofs.Digits.{decimal_one, decimal_more}

@@ -1,4 +1,5 @@
 use mathlib.Core.Path.{refl}
+use borrow.Author.Rules.{rules}
 use Rattle.slip_text.proofs.Appending.{appended_byte}
 use Rattle.slip_text.proofs.text.Text.with_byte.Goals as goal
 

@@ -9,126 +9,148 @@ use cases::{Case, refused};
 use commands::range::{LEAST_MULTIPLIER, MOST_MULTIPLIER};
 use corrections::{Corrected, banded_correction};
 use integer::number::limit;
+use std::io;
+use std::io::Read;
 
-fn main() {
-    let mut text = io::large_buffer();
-    let n = io::read_full(0, &mut text);
-    run(&text[..n]);
+fn main(rt: HostRuntime) -> io::Result<()> {
+    let mut text = Vec::new(rt.alloc());
+    rt.reader().read_to_end(&mut text)?;
+    run(&rt, &text)
 }
 
-fn run(text: &[u8]) {
+fn run(rt: &impl Print, text: &[u8]) -> io::Result<()> {
     let mut case = Case::new();
-    let mut at: usize = 0;
-    while at < text.len() {
-        let c = text[at];
-        if c == b'\n' {
-            show(case.closed());
+    for c in text {
+        if *c == b'\n' {
+            show(rt, case.closed())?;
             case = Case::new();
         } else {
-            case = case.next(c);
+            case = case.next(*c);
         }
-        at += 1;
     }
+    Ok(())
 }
 
-fn show(case: Case) {
+fn show(rt: &impl Print, case: Case) -> io::Result<()> {
     let kind = case.kind;
     let bytes = case.tape;
     let digits = case.digits / 2;
     let numbers = case.first;
     let counts = case.counts;
     match kind {
-        b'v' => show_pivot(float_at(&bytes, 0)),
-        b'x' => show_next(float_at(&bytes, 0), numbers[0]),
-        b'i' => show_correction(&bytes, digits, &numbers, counts[0]),
-        _ => {}
+        b'v' => show_pivot(rt, float_at(&bytes, 0)),
+        b'x' => show_next(rt, float_at(&bytes, 0), numbers[0]),
+        b'i' => show_correction(rt, &bytes, digits, &numbers, counts[0]),
+        _ => Ok(()),
     }
 }
 
-fn show_pivot(x: f64) {
-    print::word(b"usable");
+fn show_pivot(rt: &impl Print, x: f64) -> io::Result<()> {
+    print::word(rt, b"usable")?;
     if is_usable(x) {
-        print::word(b" 1");
+        print::word(rt, b" 1")?;
     } else {
-        print::word(b" 0");
+        print::word(rt, b" 0")?;
     }
-    print::end();
+    print::end(rt)
 }
 
-fn show_next(d: f64, y: i32) {
-    print::word(b"next");
-    print::number(next_multiplier(limit(y as i64, LEAST_MULTIPLIER, MOST_MULTIPLIER), d));
-    print::end();
+fn show_next(rt: &impl Print, d: f64, y: i32) -> io::Result<()> {
+    print::word(rt, b"next")?;
+    print::number(
+        rt,
+        next_multiplier(limit(y as i64, LEAST_MULTIPLIER, MOST_MULTIPLIER), d),
+    )?;
+    print::end(rt)
 }
 
 // The lent floats are 7.0 throughout, as many as there are residuals.
-fn show_correction(tape: &[u8], bytes: usize, numbers: &[i32], count: usize) {
+fn show_correction(
+    rt: &impl Print,
+    tape: &[u8],
+    bytes: usize,
+    numbers: &[i32],
+    count: usize,
+) -> io::Result<()> {
     let residuals = widened(numbers);
     let mut pivots = [7.0f64; 160];
     let mut correction = [7.0f64; 160];
-    show_parts(tape, bytes, &residuals, &mut pivots, &mut correction, count);
+    show_parts(
+        rt,
+        tape,
+        bytes,
+        &residuals,
+        &mut pivots,
+        &mut correction,
+        count,
+    )
 }
 
 fn show_parts(
+    rt: &impl Print,
     tape: &[u8],
     bytes: usize,
     residuals: &[i64],
     pivots: &mut [f64],
     correction: &mut [f64],
     count: usize,
-) {
+) -> io::Result<()> {
     if tape.len() < bytes {
-        return;
+        return Ok(());
     }
     if residuals.len() < count {
-        return;
+        return Ok(());
     }
     if pivots.len() < count {
-        return;
+        return Ok(());
     }
     if correction.len() < count {
-        return;
+        return Ok(());
     }
     show_answer(
+        rt,
         &tape[..bytes],
         &residuals[..count],
         &mut pivots[..count],
         &mut correction[..count],
-    );
+    )
 }
 
-fn show_answer(tape: &[u8], residuals: &[i64], pivots: &mut [f64], correction: &mut [f64]) {
+fn show_answer(
+    rt: &impl Print,
+    tape: &[u8],
+    residuals: &[i64],
+    pivots: &mut [f64],
+    correction: &mut [f64],
+) -> io::Result<()> {
     let answer = banded_correction(tape, residuals, pivots, correction);
     match answer {
-        Corrected::Written => show_slices(b"correction 1 /", pivots, correction),
-        Corrected::Unused => show_slices(b"correction 0 /", pivots, correction),
-        Corrected::Refused(why) => refused(why),
+        Corrected::Written => show_slices(rt, b"correction 1 /", pivots, correction)?,
+        Corrected::Unused => show_slices(rt, b"correction 0 /", pivots, correction)?,
+        Corrected::Refused(why) => refused(rt, why)?,
     }
-    print::end();
+    print::end(rt)
 }
 
-fn show_slices(word: &[u8], pivots: &[f64], correction: &[f64]) {
-    print::word(word);
-    list(pivots);
-    print::word(b" /");
-    list(correction);
+fn show_slices(rt: &impl Print, word: &[u8], pivots: &[f64], correction: &[f64]) -> io::Result<()> {
+    print::word(rt, word)?;
+    list(rt, pivots)?;
+    print::word(rt, b" /")?;
+    list(rt, correction)
 }
 
-fn list(floats: &[f64]) {
-    let mut i: usize = 0;
-    while i < floats.len() {
-        bits(floats[i]);
-        i += 1;
+fn list(rt: &impl Print, floats: &[f64]) -> io::Result<()> {
+    for x in floats {
+        bits(rt, *x)?;
     }
+    Ok(())
 }
 
 // The numbers as residuals.
 fn widened(numbers: &[i32]) -> [i64; 160] {
     let mut wide = [0i64; 160];
-    let mut i: usize = 0;
-    while i < 160 {
+    for i in 0..160 {
         wide[i] = number_at(numbers, i);
-        i += 1;
     }
     wide
 }

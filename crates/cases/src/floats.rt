@@ -1,12 +1,13 @@
 // Floats by the 16 hexadecimal digits of their bits.
 use integer::bytes::u8_at;
+use std::io;
 
 // Writes a float's bits as a number; not a number has none.
-pub fn bits(x: f64) {
+pub fn bits(rt: &impl Print, x: f64) -> io::Result<()> {
     if x == x {
-        print::unsigned(f64::to_bits(x));
+        print::unsigned(rt, f64::to_bits(x))
     } else {
-        print::word(b" nan");
+        print::word(rt, b" nan")
     }
 }
 

@@ -8,6 +8,7 @@
 pub mod floats;
 
 use integer::number::size;
+use std::io;
 use tape::refusal::{Carried, Refusal, carries, number};
 
 // A case as far as it has been read, character by character. The kind is the last such letter of the
@@ -173,23 +174,23 @@ fn wide(x: i32) -> usize {
 }
 
 // Writes a refusal: its number, and what it carries, or `-`.
-pub fn refused(why: Refusal) {
-    print::word(b"refused");
-    print::unsigned(number(why) as u64);
+pub fn refused(rt: &impl Print, why: Refusal) -> io::Result<()> {
+    print::word(rt, b"refused")?;
+    print::unsigned(rt, number(why) as u64)?;
     let carried = carries(why);
     match carried {
-        Carried::Place(at) => print::unsigned(at as u64),
-        Carried::Nothing => print::word(b" -"),
+        Carried::Place(at) => print::unsigned(rt, at as u64),
+        Carried::Nothing => print::word(rt, b" -"),
         Carried::Fault(fault) => {
-            print::unsigned(fault.step as u64);
-            print::unsigned(fault.column as u64);
-            print::number(fault.found);
-            print::number(fault.due);
+            print::unsigned(rt, fault.step as u64)?;
+            print::unsigned(rt, fault.column as u64)?;
+            print::number(rt, fault.found)?;
+            print::number(rt, fault.due)
         }
         Carried::Span(span) => {
-            print::number(span.cost);
-            print::number(span.floor);
+            print::number(rt, span.cost)?;
+            print::number(rt, span.floor)
         }
-        Carried::Rounds(rounds) => print::unsigned(rounds as u64),
+        Carried::Rounds(rounds) => print::unsigned(rt, rounds as u64),
     }
 }

@@ -4,61 +4,60 @@
 use cases::floats::{bits, float_at};
 use cases::{Case, refused, size_at};
 use import::{Entry, import_entry};
-use integer::bytes::u8_at;
 use models::{Model, import_model};
+use std::io;
+use std::io::Read;
 
-fn main() {
-    let mut text = io::large_buffer();
-    let n = io::read_full(0, &mut text);
-    run(&text[..n]);
+fn main(rt: HostRuntime) -> io::Result<()> {
+    let mut text = Vec::new(rt.alloc());
+    rt.reader().read_to_end(&mut text)?;
+    run(&rt, &text)
 }
 
-fn run(text: &[u8]) {
+fn run(rt: &impl Print, text: &[u8]) -> io::Result<()> {
     let mut case = Case::new();
-    let mut at: usize = 0;
-    while at < text.len() {
-        let c = text[at];
-        if c == b'\n' {
-            show(case.closed());
+    for c in text {
+        if *c == b'\n' {
+            show(rt, case.closed())?;
             case = Case::new();
         } else {
-            case = case.next(c);
+            case = case.next(*c);
         }
-        at += 1;
     }
+    Ok(())
 }
 
-fn show(case: Case) {
+fn show(rt: &impl Print, case: Case) -> io::Result<()> {
     let kind = case.kind;
     let bytes = case.tape;
     let sizes = case.first;
     match kind {
-        b'y' => show_entry(float_at(&bytes, 0)),
-        b'm' => show_model(&bytes, &sizes),
-        _ => {}
+        b'y' => show_entry(rt, float_at(&bytes, 0)),
+        b'm' => show_model(rt, &bytes, &sizes),
+        _ => Ok(()),
     }
 }
 
-fn show_entry(entry: f64) {
+fn show_entry(rt: &impl Print, entry: f64) -> io::Result<()> {
     let imported = import_entry(entry);
     match imported {
         Entry::Whole(number) => {
-            print::word(b"whole");
-            print::number(number);
+            print::word(rt, b"whole")?;
+            print::number(rt, number)?;
         }
         Entry::Near(number, leftover) => {
-            print::word(b"near");
-            print::number(number);
-            bits(leftover);
+            print::word(rt, b"near")?;
+            print::number(rt, number)?;
+            bits(rt, leftover)?;
         }
-        Entry::NotFinite => print::word(b"refused 16 -"),
-        Entry::TooLarge => print::word(b"refused 17 -"),
+        Entry::NotFinite => print::word(rt, b"refused 16 -")?,
+        Entry::TooLarge => print::word(rt, b"refused 17 -")?,
     }
-    print::end();
+    print::end(rt)
 }
 
 // n, m, how many entries A and B have, and the length of the output, which is 7 throughout.
-fn show_model(bytes: &[u8], sizes: &[i32]) {
+fn show_model(rt: &impl Print, bytes: &[u8], sizes: &[i32]) -> io::Result<()> {
     let n = size_at(sizes, 0);
     let m = size_at(sizes, 1);
     let a_count = size_at(sizes, 2);
@@ -67,10 +66,11 @@ fn show_model(bytes: &[u8], sizes: &[i32]) {
     let a = floats(bytes, 0);
     let b = floats(bytes, a_count);
     let mut out = [7u8; 320];
-    show_parts(n, m, &a, a_count, &b, b_count, &mut out, room);
+    show_parts(rt, n, m, &a, a_count, &b, b_count, &mut out, room)
 }
 
 fn show_parts(
+    rt: &impl Print,
     n: usize,
     m: usize,
     a: &[f64],
@@ -79,37 +79,43 @@ fn show_parts(
     b_count: usize,
     out: &mut [u8],
     room: usize,
-) {
+) -> io::Result<()> {
     if a.len() < a_count {
-        return;
+        return Ok(());
     }
     if b.len() < b_count {
-        return;
+        return Ok(());
     }
     if out.len() < room {
-        return;
+        return Ok(());
     }
-    show_answer(n, m, &a[..a_count], &b[..b_count], &mut out[..room]);
+    show_answer(rt, n, m, &a[..a_count], &b[..b_count], &mut out[..room])
 }
 
-fn show_answer(n: usize, m: usize, a: &[f64], b: &[f64], out: &mut [u8]) {
+fn show_answer(
+    rt: &impl Print,
+    n: usize,
+    m: usize,
+    a: &[f64],
+    b: &[f64],
+    out: &mut [u8],
+) -> io::Result<()> {
     let answer = import_model(n, m, a, b, out);
     match answer {
-        Model::Written => print::word(b"written"),
-        Model::Refused(why) => refused(why),
+        Model::Written => print::word(rt, b"written")?,
+        Model::Refused(why) => refused(rt, why)?,
     }
-    print::end();
-    print::word(b"out");
-    list(out);
-    print::end();
+    print::end(rt)?;
+    print::word(rt, b"out")?;
+    list(rt, out)?;
+    print::end(rt)
 }
 
-fn list(bytes: &[u8]) {
-    let mut i: usize = 0;
-    while i < bytes.len() {
-        print::unsigned(u8_at(bytes, i) as u64);
-        i += 1;
+fn list(rt: &impl Print, bytes: &[u8]) -> io::Result<()> {
+    for byte in bytes {
+        print::unsigned(rt, *byte as u64)?;
     }
+    Ok(())
 }
 
 // The floats behind the first so many, 8 bytes each.
@@ -118,10 +124,8 @@ fn floats(bytes: &[u8], first: usize) -> [f64; 64] {
     if 64 < first {
         return list;
     }
-    let mut i: usize = 0;
-    while i < 64 {
+    for i in 0..64 {
         list[i] = float_at(bytes, 8 * (first + i));
-        i += 1;
     }
     list
 }

@@ -5,40 +5,29 @@ use cases::{Case, refused};
 use judge::{Judged, Shown, judge_multipliers, judge_plan};
 use ranges::range::Range;
 use ranges::{Ranging, judge_ranges};
+use std::io;
+use std::io::Read;
 
-fn main() {
+fn main(rt: HostRuntime) -> io::Result<()> {
+    let mut text = Vec::new(rt.alloc());
+    rt.reader().read_to_end(&mut text)?;
+    run(&rt, &text)
+}
+
+fn run(rt: &impl Print, text: &[u8]) -> io::Result<()> {
     let mut case = Case::new();
-    let mut part: usize = 0;
-    while part < 4 {
-        case = run_part(case);
-        part += 1;
-    }
-}
-
-// The text may be longer than the buffer: its next part, with the case that the last one began.
-fn run_part(case: Case) -> Case {
-    let mut text = io::large_buffer();
-    let n = io::read_full(0, &mut text);
-    run(case, &text[..n])
-}
-
-fn run(begun: Case, text: &[u8]) -> Case {
-    let mut case = begun;
-    let mut at: usize = 0;
-    while at < text.len() {
-        let c = text[at];
-        if c == b'\n' {
-            judge(case.closed());
+    for c in text {
+        if *c == b'\n' {
+            judge(rt, case.closed())?;
             case = Case::new();
         } else {
-            case = case.next(c);
+            case = case.next(*c);
         }
-        at += 1;
     }
-    case
+    Ok(())
 }
 
-fn judge(case: Case) {
+fn judge(rt: &impl Print, case: Case) -> io::Result<()> {
     let kind = case.kind;
     let tape = case.tape;
     let bytes = case.digits / 2;
@@ -46,74 +35,96 @@ fn judge(case: Case) {
     let second = case.second;
     let counts = case.counts;
     match kind {
-        b'j' => show_judged(&tape, bytes, &first, counts[0], &second, counts[1]),
-        b'h' => show_shown(&tape, bytes, &first, counts[0]),
-        b'r' => show_ranges(&tape, bytes, &first, counts[0], &second, counts[1]),
-        _ => {}
+        b'j' => show_judged(rt, &tape, bytes, &first, counts[0], &second, counts[1]),
+        b'h' => show_shown(rt, &tape, bytes, &first, counts[0]),
+        b'r' => show_ranges(rt, &tape, bytes, &first, counts[0], &second, counts[1]),
+        _ => Ok(()),
     }
 }
 
-fn show_judged(tape: &[u8], bytes: usize, plan: &[i32], p: usize, multipliers: &[i32], q: usize) {
+fn show_judged(
+    rt: &impl Print,
+    tape: &[u8],
+    bytes: usize,
+    plan: &[i32],
+    p: usize,
+    multipliers: &[i32],
+    q: usize,
+) -> io::Result<()> {
     if tape.len() < bytes {
-        return;
+        return Ok(());
     }
     if plan.len() < p {
-        return;
+        return Ok(());
     }
     if multipliers.len() < q {
-        return;
+        return Ok(());
     }
     let judged = judge_plan(&tape[..bytes], &plan[..p], &multipliers[..q]);
     match judged {
         Judged::Gap(gap) => {
-            print::word(b"gap");
-            print::number(gap);
+            print::word(rt, b"gap")?;
+            print::number(rt, gap)?;
         }
-        Judged::Refused(why) => refused(why),
+        Judged::Refused(why) => refused(rt, why)?,
     }
-    print::end();
+    print::end(rt)
 }
 
-fn show_shown(tape: &[u8], bytes: usize, multipliers: &[i32], q: usize) {
+fn show_shown(
+    rt: &impl Print,
+    tape: &[u8],
+    bytes: usize,
+    multipliers: &[i32],
+    q: usize,
+) -> io::Result<()> {
     if tape.len() < bytes {
-        return;
+        return Ok(());
     }
     if multipliers.len() < q {
-        return;
+        return Ok(());
     }
     let shown = judge_multipliers(&tape[..bytes], &multipliers[..q]);
     match shown {
-        Shown::Shown => print::word(b"shown"),
-        Shown::Refused(why) => refused(why),
+        Shown::Shown => print::word(rt, b"shown")?,
+        Shown::Refused(why) => refused(rt, why)?,
     }
-    print::end();
+    print::end(rt)
 }
 
-fn show_ranges(tape: &[u8], bytes: usize, plan: &[i32], p: usize, multipliers: &[i32], q: usize) {
+fn show_ranges(
+    rt: &impl Print,
+    tape: &[u8],
+    bytes: usize,
+    plan: &[i32],
+    p: usize,
+    multipliers: &[i32],
+    q: usize,
+) -> io::Result<()> {
     if tape.len() < bytes {
-        return;
+        return Ok(());
     }
     if plan.len() < p {
-        return;
+        return Ok(());
     }
     if multipliers.len() < q {
-        return;
+        return Ok(());
     }
     let ranging = judge_ranges(&tape[..bytes], &plan[..p], &multipliers[..q]);
     match ranging {
         Ranging::Ranges(ranges) => {
-            print::word(b"ranges");
-            show_range(ranges.u0);
-            show_range(ranges.u1);
-            show_range(ranges.u2);
-            show_range(ranges.u3);
+            print::word(rt, b"ranges")?;
+            show_range(rt, ranges.u0)?;
+            show_range(rt, ranges.u1)?;
+            show_range(rt, ranges.u2)?;
+            show_range(rt, ranges.u3)?;
         }
-        Ranging::Refused(why) => refused(why),
+        Ranging::Refused(why) => refused(rt, why)?,
     }
-    print::end();
+    print::end(rt)
 }
 
-fn show_range(range: Range) {
-    print::number(range.low);
-    print::number(range.high);
+fn show_range(rt: &impl Print, range: Range) -> io::Result<()> {
+    print::number(rt, range.low)?;
+    print::number(rt, range.high)
 }

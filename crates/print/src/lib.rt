@@ -1,27 +1,24 @@
 // Lines of words and numbers on standard output, for the test programs.
 #![tactic(auto)]
 
+use std::io;
+
 // Writes a line's first word.
-pub fn word(text: &[u8]) {
-    io::write_all(1, text);
+pub fn word(rt: &impl Print, text: &[u8]) -> io::Result<()> {
+    rt.write_all(text)
 }
 
 // Writes a blank, and x in decimal.
-pub fn number(x: i64) {
-    io::write_all(1, b" ");
-    if x < 0 {
-        io::write_all(1, b"-");
-    }
-    io::print_decimal(1, integer::number::size(x));
+pub fn number(rt: &impl Print, x: i64) -> io::Result<()> {
+    print!(rt; " {x}")
 }
 
 // The same for an unsigned number.
-pub fn unsigned(x: u64) {
-    io::write_all(1, b" ");
-    io::print_decimal(1, x);
+pub fn unsigned(rt: &impl Print, x: u64) -> io::Result<()> {
+    print!(rt; " {x}")
 }
 
 // Ends the line.
-pub fn end() {
-    io::write_all(1, b"\n");
+pub fn end(rt: &impl Print) -> io::Result<()> {
+    rt.write_all(b"\n")
 }

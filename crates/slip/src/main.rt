@@ -1,31 +1,32 @@
 // The printing program: reads a tape from standard input and prints its firing slip. Where it cannot
-// read or write it says so on standard error, since the language has no exit status.
+// read or write it says so on standard error, and ends with status 1.
 #![tactic(auto)]
 
-use libc::{STDIN_FILENO, STDOUT_FILENO};
+ghost use Rattle.std.specs.Prelude.{OnOk, IfSome};
+ghost use Rattle.std.specs.Io.KnownBytes.{Appends};
+ghost use Rattle.slip_text.specs.Slip.{tape_slip};
+
 use slip_text::tape_slip;
+use std::alloc::Global;
+use std::io;
+use std::io::{Read, Write};
 use tape::DECIDING_BYTES;
 
-// `read_full` stops early where the input ends and where a read fails. One more read tells the two
-// apart: only at the end does it answer 0.
-fn has_ended() -> bool {
-    let mut next = [0u8; 1];
-    libc::read(STDIN_FILENO, &mut next) == 0
+fn main(rt: HostRuntime) -> io::Result<()> {
+    print_slip(rt.alloc(), rt.reader(), &mut io::writer(&rt))
 }
 
-// So many bytes decide the slip of every tape, however much follows: that is the law `slip_decided`
-// of slip_text.
-fn main() {
-    let mut input = [0u8; DECIDING_BYTES];
-    let read = io::read_full(STDIN_FILENO, &mut input);
-    if read < DECIDING_BYTES && !has_ended() {
-        os::fail(b"slip: standard input");
-        return;
-    }
-    let slip = tape_slip(&input[..read]);
+// Writes the slip of all the bytes that are left to read. So many of them decide it, however much
+// follows: that is the law `slip_decided` of slip_text. A read that fails is an error, however much
+// came before it, and never the end of the tape.
+fn print_slip<R: Read + Drop, W: Write>(alloc: Global, input: R, output: &mut W) -> io::Result<()>
+    ensures { OnOk result (IfSome (R.remaining input)
+        (λ tape. Appends (W.contents output.old) (W.contents output.new) (tape_slip tape))) }
+{
+    let mut tape = Vec::new(alloc);
+    input.take(DECIDING_BYTES as u64).read_to_end(&mut tape)?;
+    let slip = tape_slip(&tape);
     let bytes = slip.bytes;
     let length = slip.length;
-    if !io::write_all(STDOUT_FILENO, &bytes[..length]) {
-        os::fail(b"slip: standard output");
-    }
+    output.write_all(&bytes[..length])
 }

@@ -3,112 +3,107 @@
 
 use cases::{Case, refused};
 use solver::{Duties, Solved, solve};
+use std::io;
+use std::io::Read;
 
-fn main() {
+fn main(rt: HostRuntime) -> io::Result<()> {
+    let mut text = Vec::new(rt.alloc());
+    rt.reader().read_to_end(&mut text)?;
+    run(&rt, &text)
+}
+
+fn run(rt: &impl Print, text: &[u8]) -> io::Result<()> {
     let mut case = Case::new();
-    let mut part: usize = 0;
-    while part < 4 {
-        case = run_part(case);
-        part += 1;
-    }
-}
-
-// The text may be longer than the buffer: its next part, with the case that the last one began.
-fn run_part(case: Case) -> Case {
-    let mut text = io::large_buffer();
-    let n = io::read_full(0, &mut text);
-    run(case, &text[..n])
-}
-
-fn run(begun: Case, text: &[u8]) -> Case {
-    let mut case = begun;
-    let mut at: usize = 0;
-    while at < text.len() {
-        let c = text[at];
-        if c == b'\n' {
-            lend(case.closed());
+    for c in text {
+        if *c == b'\n' {
+            lend(rt, case.closed())?;
             case = Case::new();
         } else {
-            case = case.next(c);
+            case = case.next(*c);
         }
-        at += 1;
     }
-    case
+    Ok(())
 }
 
-fn lend(case: Case) {
+fn lend(rt: &impl Print, case: Case) -> io::Result<()> {
     let tape = case.tape;
     let counts = case.counts;
     let mut plan = case.first;
     let mut multipliers = case.second;
     if case.kind == b'v' {
         lend_parts(
+            rt,
             &tape,
             case.digits / 2,
             &mut plan,
             counts[0],
             &mut multipliers,
             counts[1],
-        );
+        )?;
     }
+    Ok(())
 }
 
 // Lends the first bytes of the tape, the first p numbers of the plan and the first q multipliers.
 fn lend_parts(
+    rt: &impl Print,
     tape: &[u8],
     bytes: usize,
     plan: &mut [i32],
     p: usize,
     multipliers: &mut [i32],
     q: usize,
-) {
+) -> io::Result<()> {
     if tape.len() < bytes {
-        return;
+        return Ok(());
     }
     if plan.len() < p {
-        return;
+        return Ok(());
     }
     if multipliers.len() < q {
-        return;
+        return Ok(());
     }
-    show_solved(&tape[..bytes], &mut plan[..p], &mut multipliers[..q]);
+    show_solved(rt, &tape[..bytes], &mut plan[..p], &mut multipliers[..q])
 }
 
-fn show_solved(tape: &[u8], plan: &mut [i32], multipliers: &mut [i32]) {
+fn show_solved(
+    rt: &impl Print,
+    tape: &[u8],
+    plan: &mut [i32],
+    multipliers: &mut [i32],
+) -> io::Result<()> {
     let solved = solve(tape, plan, multipliers);
     match solved {
-        Solved::Proved(rounds, gap, first) => show_proved(rounds, gap, first),
+        Solved::Proved(rounds, gap, first) => show_proved(rt, rounds, gap, first)?,
         Solved::Impossible(rounds) => {
-            print::word(b"impossible");
-            print::unsigned(rounds as u64);
+            print::word(rt, b"impossible")?;
+            print::unsigned(rt, rounds as u64)?;
         }
-        Solved::Refused(why) => refused(why),
+        Solved::Refused(why) => refused(rt, why)?,
     }
-    print::end();
-    numbers(b"plan", plan);
-    numbers(b"multipliers", multipliers);
+    print::end(rt)?;
+    numbers(rt, b"plan", plan)?;
+    numbers(rt, b"multipliers", multipliers)
 }
 
-fn show_proved(rounds: usize, gap: i64, first: Duties) {
-    print::word(b"proved");
-    print::unsigned(rounds as u64);
-    print::number(gap);
-    number(first.u0);
-    number(first.u1);
-    number(first.u2);
-    number(first.u3);
+fn show_proved(rt: &impl Print, rounds: usize, gap: i64, first: Duties) -> io::Result<()> {
+    print::word(rt, b"proved")?;
+    print::unsigned(rt, rounds as u64)?;
+    print::number(rt, gap)?;
+    number(rt, first.u0)?;
+    number(rt, first.u1)?;
+    number(rt, first.u2)?;
+    number(rt, first.u3)
 }
 
-fn numbers(name: &[u8], list: &[i32]) {
-    print::word(name);
-    let mut i: usize = 0;
-    while i < list.len() {
-        number(list[i]);
-        i += 1;
+fn numbers(rt: &impl Print, name: &[u8], list: &[i32]) -> io::Result<()> {
+    print::word(rt, name)?;
+    for x in list {
+        number(rt, *x)?;
     }
-    print::end();
+    print::end(rt)
 }
 
-fn number(x: i32) {
-    print::number(x as i64);
+fn number(rt: &impl Print, x: i32) -> io::Result<()> {
+    print::number(rt, x as i64)
 }

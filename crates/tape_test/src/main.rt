@@ -2,119 +2,107 @@
 #![tactic(auto)]
 
 use cases::{Case, refused};
+use std::io;
+use std::io::Read;
 use tape::{Answer, Tape, read};
 
-fn main() {
+fn main(rt: HostRuntime) -> io::Result<()> {
+    let mut text = Vec::new(rt.alloc());
+    rt.reader().read_to_end(&mut text)?;
+    run(&rt, &text)
+}
+
+fn run(rt: &impl Print, text: &[u8]) -> io::Result<()> {
     let mut case = Case::new();
-    let mut part: usize = 0;
-    while part < 4 {
-        case = run_part(case);
-        part += 1;
-    }
-}
-
-// The text may be longer than the buffer: its next part, with the case that the last one began.
-fn run_part(case: Case) -> Case {
-    let mut text = io::large_buffer();
-    let n = io::read_full(0, &mut text);
-    run(case, &text[..n])
-}
-
-fn run(begun: Case, text: &[u8]) -> Case {
-    let mut case = begun;
-    let mut at: usize = 0;
-    while at < text.len() {
-        let c = text[at];
-        if c == b'\n' {
-            show(case);
+    for c in text {
+        if *c == b'\n' {
+            show(rt, case)?;
             case = Case::new();
         } else {
-            case = case.next(c);
+            case = case.next(*c);
         }
-        at += 1;
     }
-    case
+    Ok(())
 }
 
-fn show(case: Case) {
+fn show(rt: &impl Print, case: Case) -> io::Result<()> {
     let kind = case.kind;
     let tape = case.tape;
     if kind == b'r' || kind == b'p' || kind == b'b' {
-        show_reading(kind, &tape, case.digits / 2);
+        show_reading(rt, kind, &tape, case.digits / 2)?;
     }
+    Ok(())
 }
 
-fn show_reading(kind: u8, tape: &[u8], bytes: usize) {
+fn show_reading(rt: &impl Print, kind: u8, tape: &[u8], bytes: usize) -> io::Result<()> {
     if tape.len() < bytes {
-        return;
+        return Ok(());
     }
     let reading = read(&tape[..bytes]);
     let answer = reading.answer;
     match answer {
-        Answer::Accepted => show_numbers(kind, reading.tape),
-        Answer::Refused(why) => refused(why),
+        Answer::Accepted => show_numbers(rt, kind, reading.tape)?,
+        Answer::Refused(why) => refused(rt, why)?,
     }
-    print::end();
+    print::end(rt)
 }
 
-fn show_numbers(kind: u8, t: Tape) {
+fn show_numbers(rt: &impl Print, kind: u8, t: Tape) -> io::Result<()> {
     match kind {
-        b'p' => show_curves(t),
-        b'b' => show_step(t.banded),
-        _ => show_tape(t),
+        b'p' => show_curves(rt, t),
+        b'b' => show_step(rt, t.banded),
+        _ => show_tape(rt, t),
     }
 }
 
-fn show_curves(t: Tape) {
+fn show_curves(rt: &impl Print, t: Tape) -> io::Result<()> {
     let curves = t.curves;
-    print::word(b"steps");
-    numbers(&curves.reference);
-    marks(&curves.given);
+    print::word(rt, b"steps")?;
+    numbers(rt, &curves.reference)?;
+    marks(rt, &curves.given)
 }
 
-fn marks(list: &[bool]) {
-    let mut i: usize = 0;
-    while i < list.len() {
-        mark(list[i]);
-        i += 1;
+fn marks(rt: &impl Print, list: &[bool]) -> io::Result<()> {
+    for given in list {
+        mark(rt, *given)?;
     }
+    Ok(())
 }
 
-fn mark(given: bool) {
+fn mark(rt: &impl Print, given: bool) -> io::Result<()> {
     if given {
-        print::unsigned(1);
+        print::unsigned(rt, 1)
     } else {
-        print::unsigned(0);
+        print::unsigned(rt, 0)
     }
 }
 
-fn show_step(banded: bool) {
-    print::word(b"step");
-    mark(banded);
+fn show_step(rt: &impl Print, banded: bool) -> io::Result<()> {
+    print::word(rt, b"step")?;
+    mark(rt, banded)
 }
 
-fn show_tape(t: Tape) {
-    print::word(b"read");
-    print::unsigned(t.n as u64);
-    print::unsigned(t.m as u64);
-    print::unsigned(t.horizon as u64);
-    numbers(&t.a);
-    numbers(&t.b);
-    numbers(&t.drift);
-    numbers(&t.low);
-    numbers(&t.high);
-    numbers(&t.reference);
-    numbers(&t.weight);
-    numbers(&t.start);
-    print::number(t.gain);
-    print::unsigned(t.rounds as u64);
-    print::number(t.wanted);
+fn show_tape(rt: &impl Print, t: Tape) -> io::Result<()> {
+    print::word(rt, b"read")?;
+    print::unsigned(rt, t.n as u64)?;
+    print::unsigned(rt, t.m as u64)?;
+    print::unsigned(rt, t.horizon as u64)?;
+    numbers(rt, &t.a)?;
+    numbers(rt, &t.b)?;
+    numbers(rt, &t.drift)?;
+    numbers(rt, &t.low)?;
+    numbers(rt, &t.high)?;
+    numbers(rt, &t.reference)?;
+    numbers(rt, &t.weight)?;
+    numbers(rt, &t.start)?;
+    print::number(rt, t.gain)?;
+    print::unsigned(rt, t.rounds as u64)?;
+    print::number(rt, t.wanted)
 }
 
-fn numbers(list: &[i64]) {
-    let mut i: usize = 0;
-    while i < list.len() {
-        print::number(list[i]);
-        i += 1;
+fn numbers(rt: &impl Print, list: &[i64]) -> io::Result<()> {
+    for x in list {
+        print::number(rt, *x)?;
     }
+    Ok(())
 }

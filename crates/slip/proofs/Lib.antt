@@ -1,0 +1,2 @@
+-- What the proof of the printing stands on.
+mod Printed

@@ -51,7 +51,7 @@ loop-column-preserved c =
     let f : ℕ → ℕ → Bool = λ i. on a.horizon a.given.now (column_place + i) in (
       omega arith,
       elim c.if-is_curved.branch [
-        then-is_curved w ↦ rw w.words-is (record {
+        | then-is_curved w ↦ rw w.words-is (record {
           each = λ i h.
               w.with_span-words-then-is_curved.ensures.each i h ∙ ap (λ (t : Bool). t || steps i) (loop.invariant.1.each i h)
               ∙ one_more (own i) loop.column (f i) (ap (λ (t : Bool). steps i && t) (curve ∙ w.if-is_curved.true) ∙ and-true (steps i));

@@ -10,13 +10,13 @@ returns-then-laboratory-ne16 c =
     wrong_laboratory a.sizes a.laboratory a.service (λ e. omega (arith, test))
 
 pub overflow_mul-result-2 : goal.overflow_mul-result-2
-overflow_mul-result-2 c = let s = c.before.before.before.before in omega (arith, service_room s.args.sizes s.requires)
+overflow_mul-result-2 c = omega (arith, service_room c.args.sizes c.requires)
 
 pub overflow_mul-result-3 : goal.overflow_mul-result-3
-overflow_mul-result-3 c = let s = c.before.before.before.before in omega (arith, service_room s.args.sizes s.requires)
+overflow_mul-result-3 c = omega (arith, service_room c.args.sizes c.requires)
 
 pub overflow_add-result-2 : goal.overflow_add-result-2
-overflow_add-result-2 c = let s = c.before.before.before.before in omega (arith, service_room s.args.sizes s.requires)
+overflow_add-result-2 c = omega (arith, service_room c.args.sizes c.requires)
 
 pub returns : goal.returns
 returns c =

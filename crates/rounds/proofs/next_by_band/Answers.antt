@@ -7,20 +7,20 @@ use Rattle.rounds.proofs.next_by_band.Goals as goal
 pub residuals-e-requires : goal.residuals-e-requires
 residuals-e-requires c =
     let h = c.requires in
-    let l = h.0.0 in
-    (l.steps.1, l.a, l.b, wider l.drift (omega arith), l.start, h.1.1)
+    let l = h.legal.0 in
+    (l.steps.1, l.a, l.b, wider l.drift (omega arith), l.start, h.blank_plan.1)
 
 pub ascend_by_band-requires : goal.ascend_by_band-requires
 ascend_by_band-requires c =
     let s = c in
     let h = s.requires in
-    let l = h.0.0 in
+    let l = h.legal.0 in
     let r = c.residuals-e.ensures in
-    let bounded = residuals_bounded s.args.t.horizon l.a l.b (wider l.drift (omega arith)) l.start h.1.1 r in
-    (l, h.0.1, h.0.2, held-step s.args.t l h.1.0 r h.0.3 h.0.4 bounded)
+    let bounded = residuals_bounded s.args.t.horizon l.a l.b (wider l.drift (omega arith)) l.start h.blank_plan.1 r in
+    (l, h.legal.1, h.legal.2, held-step s.args.t l h.blank_plan.0 r h.legal.3 h.legal.4 bounded)
 
 pub returns : goal.returns
 returns c =
     let s = c in
     let h = s.requires in
-    band_next s.args.t h.0.0 h.1.0 c.residuals-e.ensures s.args.ahead c.ascend_by_band.ensures
+    band_next s.args.t h.legal.0 h.blank_plan.0 c.residuals-e.ensures s.args.ahead c.ascend_by_band.ensures

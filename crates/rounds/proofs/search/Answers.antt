@@ -35,6 +35,7 @@ use Rattle.rounds.proofs.Sums.{plan_cost_lem, floor-below}
 use Rattle.rounds.proofs.Weighing.{verdict-is, neither_early, proved_kept}
 use Rattle.rounds.proofs.Entered.{Begins, Running, running_start, running_next, open_is, whole_is}
 use Rattle.rounds.proofs.search.Goals as goal
+use Rattle.rounds.proofs.search.Goals.{then-factored, else-factored, then-may_answer, else-may_answer}
 use Rattle.rounds.proofs.search.Tie as tie
 use Rattle.rounds.proofs.search.Reads as reads
 use Rattle.rounds.proofs.search.Lts as lts
@@ -93,8 +94,8 @@ pub multipliers_ahead-requires : goal.multipliers_ahead-requires
 multipliers_ahead-requires c =
     let b = c in
     let h = b.loop-k.invariant.held in
-    let l = small b.before.before.before in
-    rw (number_is b.before.before.before) (omega (arith, order), omega (arith, order), (legal b.before.before.before).steps.1, h.bounded, h.bounded_previous, refl)
+    let l = small b.before.before.before.before in
+    rw (number_is b.before.before.before.before) (omega (arith, order), omega (arith, order), (legal b.before.before.before.before).steps.1, h.bounded, h.bounded_previous, refl)
 
 -- step 1
 held : (c : lts.After-multipliers_ahead tie.the-claims reads.Pre reads.Post goal.the-invariant-loop-k goal.the-decreases-loop-k tie.handed_clauses) →
@@ -146,11 +147,11 @@ few c =
 
 pub ascend-pull-requires : goal.ascend-pull-requires
 ascend-pull-requires c =
-    let f : lts.After-force tie.the-claims reads.Pre reads.Post goal.the-invariant-loop-k goal.the-decreases-loop-k tie.handed_clauses = c.before.before.before.before.before.before.before in
+    let f : lts.After-force tie.the-claims reads.Pre reads.Post goal.the-invariant-loop-k goal.the-decreases-loop-k tie.handed_clauses = c.before.before.before.before.before.before in
     let d = minimised f in
     let b = here d in
     let l = legal b in
-    rw (gain_is b) ((l.steps.1, refl, gain_small b, (held (led d)).bounded), (l.a, few f, l.start, (numbers d).bounded))
+    rw (gain_is b) (record { horizon_bound = (l.steps.1, refl, gain_small b, (held (led d)).bounded); bounded = (l.a, few f, l.start, (numbers d).bounded) })
 
 pub next_by_band-next-requires : goal.next_by_band-next-requires
 next_by_band-next-requires c =
@@ -185,10 +186,10 @@ module _ (c : lts.After-follow tie.the-claims reads.Pre reads.Post goal.the-inva
   round = here at_minimised
 
   abbrev inputs : ℤ
-  inputs = at_minimised.minimise.result.inputs
+  inputs = at_minimised.minimise-costs.result.inputs
 
   abbrev states : ℤ
-  states = at_minimised.minimise.result.states
+  states = at_minimised.minimise-costs.result.states
 
   abbrev pull : ℤ
   pull = (climbed c).ascend-pull.result
@@ -197,10 +198,10 @@ module _ (c : lts.After-follow tie.the-claims reads.Pre reads.Post goal.the-inva
   following = c.follow-followed.result.cost
 
   size_inputs : nat_abs inputs ≤ 48 * most_cost
-  size_inputs = rw at_minimised.minimise.ensures.1.0 (size_inputs_total (s round).requires.rows_of.0.rows (t round).horizon (legal round).steps.1 (t round).b (y at_minimised))
+  size_inputs = rw at_minimised.minimise-costs.ensures.inputs_value (size_inputs_total (s round).requires.rows_of.0.rows (t round).horizon (legal round).steps.1 (t round).b (y at_minimised))
 
   size_states : nat_abs states ≤ 72 * most_cost
-  size_states = rw at_minimised.minimise.ensures.1.1 (size_states_total (s round).requires.rows_of.0.rows (t round).horizon (legal round).steps.1 (t round).a (y at_minimised))
+  size_states = rw at_minimised.minimise-costs.ensures.states_value (size_states_total (s round).requires.rows_of.0.rows (t round).horizon (legal round).steps.1 (t round).a (y at_minimised))
 
   size_pull : nat_abs pull ≤ 72 * most_pull
   size_pull =
@@ -257,8 +258,8 @@ module _ (c : lts.After-follow tie.the-claims reads.Pre reads.Post goal.the-inva
 
   cost_is : c.follow-followed.result.dropped ≡ false → inputs +ℤ following ≡ plan_cost (problem_of (t round)) following_plan
   cost_is e =
-      ap₂ (λ (a b : ℤ). a +ℤ b) at_minimised.minimise.ensures.1.0 (followed_by.cost e)
-      ∙ plan_cost_lem (t round) (legal round) (y at_minimised) (s round).requires.legal.1 (s round).requires.rows_of.0 at_minimised.minimise.ensures.0.0 following_plan.x
+      ap₂ (λ (a b : ℤ). a +ℤ b) at_minimised.minimise-costs.ensures.inputs_value (followed_by.cost e)
+      ∙ plan_cost_lem (t round) (legal round) (y at_minimised) (s round).requires.legal.1 (s round).requires.rows_of.0 at_minimised.minimise-costs.ensures.steps.0 following_plan.x
 
   abbrev lowest : ℤ
   lowest = floor (problem_of (t round)) (padded (y at_minimised))
@@ -269,14 +270,14 @@ module _ (c : lts.After-follow tie.the-claims reads.Pre reads.Post goal.the-inva
 
   below : lowest ≼ inputs +ℤ states +ℤ pull
   below =
-      let e = at_minimised.minimise.ensures.1 in
+      let e = at_minimised.minimise-costs.ensures in
       subst⁻¹ (λ (z : ℤ). lowest ≼ z)
-      (ap₂ (λ (a b : ℤ). a +ℤ b) (ap₂ (λ (a b : ℤ). a +ℤ b) e.0 e.1) (climbed c).ascend-pull.ensures.value)
-      (floor-below (t round) (legal round) (y at_minimised) (s round).requires.legal.1 (s round).requires.rows_of.0 at_minimised.minimise.ensures.0.0
+      (ap₂ (λ (a b : ℤ). a +ℤ b) (ap₂ (λ (a b : ℤ). a +ℤ b) e.inputs_value e.states_value) (climbed c).ascend-pull.ensures.value)
+      (floor-below (t round) (legal round) (y at_minimised) (s round).requires.legal.1 (s round).requires.rows_of.0 at_minimised.minimise-costs.ensures.steps.0
       at_forced.force.ensures (held (led at_minimised)).blank (numbers at_minimised).blank (numbers at_minimised))
 
   highest_is : back (s round).args.highest ≡ ceiling (problem_of (t round))
-  highest_is = to_z-of_z (s round).fits.highest ∙ (s round).requires.legal.2
+  highest_is = to_z-of_z (s round).ranges.highest ∙ (s round).requires.legal.2
 
   wanted_is : back (t round).wanted ≡ (t round).wanted
   wanted_is =
@@ -284,17 +285,19 @@ module _ (c : lts.After-follow tie.the-claims reads.Pre reads.Post goal.the-inva
       back_is (t round).wanted {B = 4294967295} (omega (arith, order, size_parts (t round).wanted)) (omega arith)
 
   abbrev joined : lts.Joined1 tie.the-claims reads.Pre reads.Post goal.the-invariant-loop-k goal.the-decreases-loop-k tie.handed_clauses
-  joined = c.before.before.before.before.before.before.before
+  joined = c.before.before.before.before.before.before
 
   -- step 4, by either command
-  next_held : NextHeld (t round) (y at_minimised) (v at_minimised) joined.if1.next
+  next_held : NextHeld (t round) (y at_minimised) (v at_minimised) joined.if-factored.next
   next_held =
       let h = (s round).requires.rows_of in
       let Next : List ℤ → Type 0 = λ l. NextHeld (t round) (y at_minimised) (v at_minimised) l in
-      ⊎_elim (λ w. subst⁻¹ Next w.2 w.1.ensures)
-      (λ w. subst⁻¹ Next w.1
-      (gain-next (t round) (legal round) (numbers at_minimised).blank (y at_minimised) at_forced.force.ensures (sym h.1 ∙ w.0.left)
-      (held (led at_minimised)).blank (rw (gain_is round) at (climbed c).ascend-pull.ensures.steps.0))) joined.if1.came
+      elim joined.if-factored.branch [
+        | then-factored w ↦ subst⁻¹ Next w.next-is w.next_by_band-next.ensures
+        | else-factored w ↦ subst⁻¹ Next w.next-is
+            (gain-next (t round) (legal round) (numbers at_minimised).blank (y at_minimised) at_forced.force.ensures (sym h.1 ∙ w.if-factored.false)
+            (held (led at_minimised)).blank (rw (gain_is round) at (climbed c).ascend-pull.ensures.steps.0))
+      ]
 
 pub overflow_add-cost : goal.overflow_add-cost
 overflow_add-cost c = (cost c.before.before.before.before).fits
@@ -316,7 +319,7 @@ follows c = c.before.before.before.before.before.before.before
 
 pub weigh-verdict-requires : goal.weigh-verdict-requires
 weigh-verdict-requires c =
-    let f = follows c.before in
+    let f = follows c.before.before in
     let b = round f in
     let y = held (led (at_minimised f)) in
     record {
@@ -366,12 +369,13 @@ unanswered c =
     let a = c in
     let f = follows a.before in
     let b = round f in
-    ⊎_elim (λ w. sym (weighed (record { before = record { before = a; if2 = w.0 }; weigh = w.1 })) ∙ w.3.given.1)
-    (λ w.
-    sym (decided f)
-    ∙ neither_early f.follow-followed.result.dropped (inputs f +ℤ following f) (t b).wanted (ceiling (problem_of (t b))) (lowest f) (inputs f +ℤ states f +ℤ pull f) (below f)
-    (rw ((gap f).is, wanted_is f, highest_is f, (bound f).is) at (sym a.may_answer.ensures ∙ w.left)))
-    c.if-may_answer.branch
+    elim c.if-may_answer.branch [
+      | then-may_answer w ↦ ?
+      | else-may_answer w ↦
+          sym (decided f)
+          ∙ neither_early f.follow-followed.result.dropped (inputs f +ℤ following f) (t b).wanted (ceiling (problem_of (t b))) (lowest f) (inputs f +ℤ states f +ℤ pull f) (below f)
+          (rw ((gap f).is, wanted_is f, highest_is f, (bound f).is) at (sym a.may_answer.ensures ∙ w.if-may_answer.false))
+    ]
 
 pub loop-k-preserved : goal.loop-k-preserved
 loop-k-preserved c =

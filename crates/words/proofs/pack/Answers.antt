@@ -51,7 +51,7 @@ loop-b-preserved c =
     let f : ℕ → Bool = λ j. get_or a.marks.now (a.first + j) false in (
       omega arith,
       elim c.if-is_marked.branch [
-        then-is_marked w ↦ rw w.word-is (with_bit f loop.b loop.word loop.invariant.1 (omega arith) (sym c.is_marked.ensures ∙ w.if-is_marked.true))
+        | then-is_marked w ↦ rw w.word-is (with_bit f loop.b loop.word loop.invariant.1 (omega arith) (sym c.is_marked.ensures ∙ w.if-is_marked.true))
         | else-is_marked w ↦ rw w.word-is (without_bit f loop.b loop.word loop.invariant.1 (sym c.is_marked.ensures ∙ w.if-is_marked.false))
       ],
     )

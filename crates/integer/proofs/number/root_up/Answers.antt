@@ -7,7 +7,7 @@ use Rattle.integer.proofs.Root.{zero_least, next-least, root_is}
 use Rattle.integer.proofs.number.root_up.Goals as goal
 
 -- both clauses from the second
-found : {z b : ℕ} → LeastRoot z b → record {value : b ≡ root_up z; least_root : LeastRoot z b}
+found : {z b : ℕ} → LeastRoot z b → record { value : b ≡ root_up z; least_root : LeastRoot z b }
 found {z} {b} r = record { value = root_is z b r; least_root = r }
 
 pub returns-then-z-eq0 : goal.returns-then-z-eq0

@@ -18,7 +18,7 @@ use Rattle.problem.proofs.Figures.{bytes, wide, narrow, ample, rows}
 use Rattle.steps.specs.Steps.{ahead, minimiser, model_states, dropped, verdict, ascended}
 use Rattle.ascent.specs.Correction.{correction}
 use Rattle.primal.specs.Lent.{listed, joined}
-use Rattle.rounds.specs.Running.{impossible, rounds}
+use Rattle.rounds.specs.Running.{rounds}
 use Rattle.solver.specs.Solving.{solving_on, solving}
 use Rattle.integer.specs.Encoding.{unsigned_bytes, complement}
 use Rattle.records.specs.Readers.{number_bytes}

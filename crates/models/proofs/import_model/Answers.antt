@@ -16,8 +16,7 @@ returns-in-Refused c =
 
 pub write_model-requires : goal.write_model-requires
 write_model-requires c =
-    let s = c.before.before.before.before.before.before.before in
-    let a = s.args in
+    let a = c.args in
     let r = ready a.n a.m a.a.now a.b.now (length a.out.now) (sym c.test_model-answer.ensures ∙ c.in_default.is) in
     let p = square_small a.n r.sizes.1 in
     let q = product_small a.n a.m r.sizes.1 r.sizes.3 in
@@ -25,8 +24,7 @@ write_model-requires c =
 
 pub returns : goal.returns
 returns c =
-    let s = c.before.before.before.before.before.before.before.before.before.before in
-    let a = s.args in
+    let a = c.args in
     let e = sym c.in_default.is ∙ c.test_model-answer.ensures in
     let r = ready a.n a.m a.a.now a.b.now (length a.out.now) (sym e) in
     let w = c.write_model.ensures in

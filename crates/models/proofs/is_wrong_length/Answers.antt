@@ -18,13 +18,11 @@ returns-then-b-inputs c = rw (eq-eqb _ _ c.if-a-states.false, ne_eqb _ _ c.if-b-
 
 pub overflow_add-result : goal.overflow_add-result
 overflow_add-result c =
-    let s = c.before.before in
-    omega (arith, square_small s.args.n s.requires.0, product_small s.args.n s.args.m s.requires.0 s.requires.1)
+    omega (arith, square_small c.args.n c.requires.0, product_small c.args.n c.args.m c.requires.0 c.requires.1)
 
 pub overflow_mul-result : goal.overflow_mul-result
 overflow_mul-result c =
-    let s = c.before.before in
-    omega (arith, square_small s.args.n s.requires.0, product_small s.args.n s.args.m s.requires.0 s.requires.1)
+    omega (arith, square_small c.args.n c.requires.0, product_small c.args.n c.args.m c.requires.0 c.requires.1)
 
 pub returns : goal.returns
 returns c = rw (eq-eqb _ _ c.if-a-states.false, eq-eqb _ _ c.if-b-inputs.false) refl

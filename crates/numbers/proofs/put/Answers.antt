@@ -14,8 +14,7 @@ loop-j-init c = let a = c.args in (omega arith, paste-zero a.out.now a.first a.f
 pub loop-j-preserved : goal.loop-j-preserved
 loop-j-preserved c =
     let l = c.loop-j in
-    let s = c.before.before.before in
-    let a = s.args in (
+    let a = c.args in (
       omega arith,
       rw (l.invariant.1, called _ c.out-1.given, add-one l.j)
           (paste-suc a.out.now a.first a.from.now l.j (pos 0) (omega arith) c.loop-j-test.true),

@@ -1,7 +1,6 @@
 use mathlib.Core.Path.{◌≡◌, refl, sym, ◌∙◌}
-use mathlib.Core.Bool.{Bool}
 use lib.ListN.{length}
-use Rattle.integer.proofs.Operand.{Bytes, bytes_of}
+use Rattle.integer.proofs.Operand.{bytes_of}
 use Rattle.tape.specs.declared.Answer.TheVariants.{Accepted}
 use Rattle.tape.specs.Reading.{reading}
 use Rattle.tape.specs.declared.refusal.Refusal.TheVariants.{Length}

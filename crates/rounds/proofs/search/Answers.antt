@@ -35,7 +35,7 @@ use Rattle.rounds.proofs.Sums.{plan_cost_lem, floor-below}
 use Rattle.rounds.proofs.Weighing.{verdict-is, neither_early, proved_kept}
 use Rattle.rounds.proofs.Entered.{Begins, Running, running_start, running_next, open_is, whole_is}
 use Rattle.rounds.proofs.search.Goals as goal
-use Rattle.rounds.proofs.search.Goals.{then-factored, else-factored, then-may_answer, else-may_answer}
+use Rattle.rounds.proofs.search.Goals.{then-factored, else-factored, then-may_answer+in-Neither, else-may_answer}
 use Rattle.rounds.proofs.search.Tie as tie
 use Rattle.rounds.proofs.search.Reads as reads
 use Rattle.rounds.proofs.search.Lts as lts
@@ -300,19 +300,19 @@ module _ (c : lts.After-follow tie.the-claims reads.Pre reads.Post goal.the-inva
       ]
 
 pub overflow_add-cost : goal.overflow_add-cost
-overflow_add-cost c = (cost c.before.before.before.before).fits
+overflow_add-cost c = (cost c.before.before.before.before.before).fits
 
 pub overflow_add-upper : goal.overflow_add-upper
-overflow_add-upper c = (own c.before.before.before.before.before.before).fits
+overflow_add-upper c = (own c.before.before.before.before.before.before.before).fits
 
 pub overflow_add-upper-in-loop-k : goal.overflow_add-upper-in-loop-k
-overflow_add-upper-in-loop-k c = (bound c.before.before.before.before.before.before).fits
+overflow_add-upper-in-loop-k c = (bound c.before.before.before.before.before.before.before).fits
 
 pub overflow_add-k : goal.overflow_add-k
-overflow_add-k c = let l = small (round c.before.before.before.before.before.before) in omega arith
+overflow_add-k c = let l = small (round c.before.before.before.before.before.before.before) in omega arith
 
 pub overflow_sub-least : goal.overflow_sub-least
-overflow_sub-least c = (gap c.before.before.before.before.before.before).fits
+overflow_sub-least c = (gap c.before.before.before.before.before.before.before).fits
 
 abbrev follows : lts.After-may_answer tie.the-claims reads.Pre reads.Post goal.the-invariant-loop-k goal.the-decreases-loop-k tie.handed_clauses → lts.After-follow tie.the-claims reads.Pre reads.Post goal.the-invariant-loop-k goal.the-decreases-loop-k tie.handed_clauses
 follows c = c.before.before.before.before.before.before.before
@@ -346,7 +346,10 @@ returns-in-Proved c =
     let kept = proved_kept f.follow-followed.result.dropped _ _ _ _ (decided f ∙ sym (weighed w.before.before) ∙ told) in
     let plan = subst (λ d. HeldUnless d (t b) (following_plan f) f.follow-followed.new.plan) kept (followed_by f).held in
     rw (e.0, e.1, e.2)
-    (whole_is (legal b) b.loop-k.invariant (early b) (begins (at_minimised f)) _ (sym (weighed w.before.before) ∙ told) plan, (plan.bounded, (held (led (at_minimised f))).bounded))
+    (record {
+      t_value = whole_is (legal b) b.loop-k.invariant (early b) (begins (at_minimised f)) _ (sym (weighed w.before.before) ∙ told) plan;
+      bounded = (plan.bounded, (held (led (at_minimised f))).bounded);
+    })
 
 pub returns-in-Impossible : goal.returns-in-Impossible
 returns-in-Impossible c =
@@ -356,7 +359,10 @@ returns-in-Impossible c =
     let m = at_minimised f in
     let e = c.impossible.ensures in
     rw (e.0, e.1, e.2)
-    (whole_is (legal b) b.loop-k.invariant (early b) (begins m) (replicate 120 (pos 0)) (sym (weighed w.before.before) ∙ c.in-Impossible.is) tt, (zeros-bounded 120, (held (led m)).bounded))
+    (record {
+      t_value = whole_is (legal b) b.loop-k.invariant (early b) (begins m) (replicate 120 (pos 0)) (sym (weighed w.before.before) ∙ c.in-Impossible.is) tt;
+      bounded = (zeros-bounded 120, (held (led m)).bounded);
+    })
 
 pub loop-k-smaller : goal.loop-k-smaller
 loop-k-smaller c = let e = early (round (follows c.before.before)) in omega arith
@@ -370,7 +376,8 @@ unanswered c =
     let f = follows a.before in
     let b = round f in
     elim c.if-may_answer.branch [
-      | then-may_answer w ↦ ?
+      | then-may_answer+in-Neither w ↦
+          sym (weighed (record { before = record { before = a.before; if-may_answer = w.if-may_answer }; weigh-verdict = w.weigh-verdict })) ∙ w.in-Neither.is
       | else-may_answer w ↦
           sym (decided f)
           ∙ neither_early f.follow-followed.result.dropped (inputs f +ℤ following f) (t b).wanted (ceiling (problem_of (t b))) (lowest f) (inputs f +ℤ states f +ℤ pull f) (below f)
@@ -387,4 +394,7 @@ loop-k-preserved c =
 pub returns : goal.returns
 returns c =
     let e = c.open.ensures in
-    rw (e.0, e.1, e.2) (open_is (begin c.before.before).requires.legal.0 c.loop-k.invariant (omega arith), (zeros-bounded 120, zeros-bounded 72))
+    rw (e.0, e.1, e.2) (record {
+      t_value = open_is c.requires.legal.0 c.loop-k.invariant (omega arith);
+      bounded = (zeros-bounded 120, zeros-bounded 72);
+    })

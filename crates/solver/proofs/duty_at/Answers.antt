@@ -12,18 +12,16 @@ use Rattle.solver.proofs.duty_at.Goals as goal
 
 pub overflow_cast-result : goal.overflow_cast-result
 overflow_cast-result c =
-    let s = c.before.before in
-    rw (called (at s.args.v.now s.args.j) c.result-1.given) (bounded_fits s.requires.2 (omega arith) s.args.j)
+    rw (called (at c.args.v.now c.args.j) c.result-1.given) (bounded_fits c.requires.2 (omega arith) c.args.j)
 
 pub returns-then-j-m : goal.returns-then-j-m
 unfolding duty
 returns-then-j-m c =
-    let i = c.before in
-    let a = i.args in
+    let a = c.args in
     let z : 10 * 0 + a.j ≡ a.j = omega arith in
-    rw (lt-ltb _ _ i.if-j-m.true)
+    rw (lt-ltb _ _ c.if-j-m.true)
     (to_z-of_z (overflow_cast-result c) ∙ called _ c.result-1.given
-    ∙ sym (first-inputs a.n a.m a.horizon (padded_plan a.v.now) a.j i.requires.1 i.if-j-m.true ∙ ap (at a.v.now) z))
+    ∙ sym (first-inputs a.n a.m a.horizon (padded_plan a.v.now) a.j c.requires.1 c.if-j-m.true ∙ ap (at a.v.now) z))
 
 pub returns : goal.returns
 unfolding duty

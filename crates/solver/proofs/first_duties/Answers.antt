@@ -13,12 +13,9 @@ given z h e = to_z-of_z {w = w32} {z = z} (record { sfits = h }) ∙ e
 
 pub returns : goal.returns
 returns c =
-    let b = c.before in
-    let a = b.before in
-    let z = a.before in
     rw (
-      given _ z.duty_at.type_inv z.duty_at.ensures,
-      given _ a.duty_at-2.type_inv a.duty_at-2.ensures,
-      given _ b.duty_at-3.type_inv b.duty_at-3.ensures,
+      given _ c.duty_at.type_inv c.duty_at.ensures,
+      given _ c.duty_at-2.type_inv c.duty_at-2.ensures,
+      given _ c.duty_at-3.type_inv c.duty_at-3.ensures,
       given _ c.duty_at-4.type_inv c.duty_at-4.ensures,
     )

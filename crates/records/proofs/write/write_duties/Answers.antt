@@ -10,18 +10,14 @@ use Rattle.records.proofs.write.write_duties.Goals as goal
 
 pub write_numbers-requires : goal.write_numbers-requires
 write_numbers-requires c =
-    let s = c.before.before in
-    let a = s.args in
+    let a = c.args in
     let w = 2 * length a.duties.now in
-    (next_part 0 w w (omega arith) (omega arith) (filled_none 8 {out = a.part.now} s.requires.0), refl, omega arith, wider s.requires.2 (omega arith))
+    (next_part 0 w w (omega arith) (omega arith) (filled_none 8 {out = a.part.now} c.requires.0), refl, omega arith, wider c.requires.2 (omega arith))
 
 pub returns : goal.returns
 returns c =
-    let second = c.before.before in
-    let first = second.before.before.before.before in
-    let s = first.before.before.before in
-    let a = s.args in
+    let a = c.args in
     let duties = a.duties.now in
     let w = 2 * length duties in
-    let f = filled_part 0 w w (number_bytes 2 duties) (omega arith) (omega arith) (number_bytes_length 2 duties) (filled_none 8 {out = a.part.now} s.requires.0) first.write_numbers.ensures in
-    filled_whole (filled_absent w 8 (8 - w) (omega arith) (omega arith) f second.fill.ensures)
+    let f = filled_part 0 w w (number_bytes 2 duties) (omega arith) (omega arith) (number_bytes_length 2 duties) (filled_none 8 {out = a.part.now} c.requires.0) c.write_numbers.ensures in
+    filled_whole (filled_absent w 8 (8 - w) (omega arith) (omega arith) f c.fill.ensures)

@@ -6,11 +6,7 @@ use Rattle.records.proofs.write.write_head.Goals as goal
 
 pub returns : goal.returns
 returns c =
-    let third = c.before.before in
-    let second = third.before.before.before.before in
-    let first = second.before.before.before.before in
-    let s = first.before.before.before in
-    let a = s.args in
-    let f1 = filled_unsigned 0 1 1 refl (omega arith) (filled_none 4 {out = a.part.now} s.requires) a.kind first.write_unsigned.ensures in
-    let f2 = filled_unsigned 1 2 1 refl (omega arith) f1 a.duties second.write_unsigned-2.ensures in
-    filled_whole (filled_unsigned 2 4 2 refl (omega arith) f2 a.rounds third.write_unsigned-3.ensures)
+    let a = c.args in
+    let f1 = filled_unsigned 0 1 1 refl (omega arith) (filled_none 4 {out = a.part.now} c.requires) a.kind c.write_unsigned.ensures in
+    let f2 = filled_unsigned 1 2 1 refl (omega arith) f1 a.duties c.write_unsigned-2.ensures in
+    filled_whole (filled_unsigned 2 4 2 refl (omega arith) f2 a.rounds c.write_unsigned-3.ensures)

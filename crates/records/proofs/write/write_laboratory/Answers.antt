@@ -11,12 +11,8 @@ use Rattle.records.proofs.write.write_laboratory.Goals as goal
 
 pub returns : goal.returns
 returns c =
-    let third = c.before.before in
-    let second = third.before.before.before.before in
-    let first = second.before.before.before.before.before in
-    let s = first.before.before.before in
-    let a = s.args in
+    let a = c.args in
     let duties = a.duties.now in
-    let f1 = filled_part 0 4 4 (head 1 (length duties) a.rounds) refl (omega arith) (head-length 1 (length duties) a.rounds) (filled_none 16 {out = a.part.now} s.requires.0) first.write_head.ensures in
-    let f2 = filled_unsigned 4 8 4 refl (omega arith) f1 (nat_abs a.gap) (second.write_unsigned.ensures ∙ ap (unsigned_bytes _) (second.size.ensures ∙ ap nat_abs (to_z-of_z s.ranges.gap))) in
-    filled_whole (filled_part 8 16 8 (duty_bytes duties) refl (omega arith) (duty_bytes_length duties s.requires.1) f2 third.write_duties.ensures)
+    let f1 = filled_part 0 4 4 (head 1 (length duties) a.rounds) refl (omega arith) (head-length 1 (length duties) a.rounds) (filled_none 16 {out = a.part.now} c.requires.0) c.write_head.ensures in
+    let f2 = filled_unsigned 4 8 4 refl (omega arith) f1 (nat_abs a.gap) (c.write_unsigned.ensures ∙ ap (unsigned_bytes _) (c.size.ensures ∙ ap nat_abs (to_z-of_z c.ranges.gap))) in
+    filled_whole (filled_part 8 16 8 (duty_bytes duties) refl (omega arith) (duty_bytes_length duties c.requires.1) f2 c.write_duties.ensures)

@@ -9,16 +9,13 @@ use Rattle.records.proofs.write.write_open.Goals as goal
 
 pub returns : goal.returns
 returns c =
-    let last = c.before.before in
-    let w = last.before.before.before.before.before.before in
-    let s = w.before.before.before.before.before.before.before.before in
-    let z = s.args.sizes in
+    let z = c.args.sizes in
     let p = plan_count z in
     let q = multiplier_count z in
     let e : 19 + 4 * p + 4 * q ≡ service_length z = omega (arith, service_split z) in
-    let f = filled_part 0 (19 + 4 * p) (19 + 4 * p) (sized (unproved 3 s.args.rounds) z ++ absent (4 * p)) (omega arith) (omega arith) (front_length 3 s.args.rounds z)
-    (filled_none (service_length z) {out = s.args.service.now} s.requires.1) w.write_without_plan.ensures.front_after in
+    let f = filled_part 0 (19 + 4 * p) (19 + 4 * p) (sized (unproved 3 c.args.rounds) z ++ absent (4 * p)) (omega arith) (omega arith) (front_length 3 c.args.rounds z)
+    (filled_none (service_length z) {out = c.args.service.now} c.requires.1) c.write_without_plan.ensures.front_after in
     record {
-      laboratory_after = w.write_without_plan.ensures.laboratory_after;
-      service_after = filled_end e (filled_absent (19 + 4 * p) (19 + 4 * p + 4 * q) (4 * q) refl (omega arith) f last.fill.ensures);
+      laboratory_after = c.write_without_plan.ensures.laboratory_after;
+      service_after = filled_end e (filled_absent (19 + 4 * p) (19 + 4 * p + 4 * q) (4 * q) refl (omega arith) f c.fill.ensures);
     }

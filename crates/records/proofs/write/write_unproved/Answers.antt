@@ -7,10 +7,6 @@ use Rattle.records.proofs.write.write_unproved.Goals as goal
 
 pub returns : goal.returns
 returns c =
-    let third = c.before.before in
-    let second = third.before.before.before.before in
-    let first = second.before.before.before.before in
-    let s = first.before.before.before in
-    let a = s.args in
-    let f = filled_part 0 4 4 (head a.kind 0 a.rounds) refl (omega arith) (head-length a.kind 0 a.rounds) (filled_none 16 {out = a.part.now} s.requires) first.write_head.ensures in
-    filled_whole (filled_absent 8 16 8 refl (omega arith) (filled_absent 4 8 4 refl (omega arith) f second.fill.ensures) third.fill-2.ensures)
+    let a = c.args in
+    let f = filled_part 0 4 4 (head a.kind 0 a.rounds) refl (omega arith) (head-length a.kind 0 a.rounds) (filled_none 16 {out = a.part.now} c.requires) c.write_head.ensures in
+    filled_whole (filled_absent 8 16 8 refl (omega arith) (filled_absent 4 8 4 refl (omega arith) f c.fill.ensures) c.fill-2.ensures)

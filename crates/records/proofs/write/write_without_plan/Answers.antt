@@ -10,18 +10,14 @@ use Rattle.records.proofs.write.write_without_plan.Goals as goal
 
 pub returns : goal.returns
 returns c =
-    let last = c.before.before in
-    let second = last.before.before.before.before in
-    let first = second.before.before.before.before.before in
-    let s = first.before.before.before.before in
-    let a = s.args in
+    let a = c.args in
     let z = a.sizes in
     let p = plan_count z in
     let l = unproved a.kind a.rounds in
-    let e = s.requires.1 in
+    let e = c.requires.1 in
     let f = filled_part 0 19 19 (sized l z) refl (omega arith) (sized-length l z (unproved-length a.kind a.rounds)) (filled_none (19 + 4 * p) {out = a.front.now} e)
-    (second.write_sized.ensures ∙ ap (λ (b : List ℕ). sized b z) first.write_unproved.ensures) in
+    (c.write_sized.ensures ∙ ap (λ (b : List ℕ). sized b z) c.write_unproved.ensures) in
     record {
-      laboratory_after = first.write_unproved.ensures;
-      front_after = filled_end e (filled_absent 19 (length a.front.now) (4 * p) (omega arith) (omega arith) f last.fill.ensures);
+      laboratory_after = c.write_unproved.ensures;
+      front_after = filled_end e (filled_absent 19 (length a.front.now) (4 * p) (omega arith) (omega arith) f c.fill.ensures);
     }

@@ -28,8 +28,6 @@ overflow_add-end c = omega (arith, room c)
 pub offset_bounds-multipliers-first : goal.offset_bounds-multipliers-first
 offset_bounds-multipliers-first c = omega (arith, room c)
 
--- LEFT part-write-numbers-end : tie.Need-slice-bounds-write-numbers-end invariant-loop decreases-loop
--- LEFT part-write-numbers-end c = room c
 
 pub write_numbers-requires : goal.write_numbers-requires
 write_numbers-requires c =

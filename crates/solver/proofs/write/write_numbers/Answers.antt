@@ -14,9 +14,8 @@ loop-j-init c = (omega arith, stretch_none _ _ _)
 
 pub overflow_cast-part : goal.overflow_cast-part
 overflow_cast-part c =
-    let s = c.before.before.before in
-    let p = s.args.first + c.loop-j.j in
-    rw (called (at s.args.from.now p) c.part-1.given) (bounded_fits s.requires.1 (omega arith) p)
+    let p = c.args.first + c.loop-j.j in
+    rw (called (at c.args.from.now p) c.part-1.given) (bounded_fits c.requires.1 (omega arith) p)
 
 pub loop-j-preserved : goal.loop-j-preserved
 loop-j-preserved c =

@@ -21,22 +21,17 @@ overflow_add-end c = omega (arith, room c)
 pub offset_bounds-plan-first : goal.offset_bounds-plan-first
 offset_bounds-plan-first c = omega (arith, room c)
 
--- LEFT part-write-step-end : tie.Need-slice-bounds-write-step-end invariant-loop decreases-loop
--- LEFT part-write-step-end c = room c
 
 pub write_step-requires : goal.write_step-requires
 write_step-requires c =
-    let i = c.before in
-    let s = i.before.before in
-    (written_part i.loop-k.invariant.1 s.requires.0 i.loop-k-test.true, s.requires.1, s.requires.2, omega arith, s.requires.4)
+    (written_part c.loop-k.invariant.1 c.requires.0 c.loop-k-test.true, c.requires.1, c.requires.2, omega arith, c.requires.4)
 
 pub loop-k-preserved : goal.loop-k-preserved
 loop-k-preserved c =
-    let i = c.before.before.before in
-    let s = i.before.before in (
+    (
       omega arith,
-      written_more i.loop-k.invariant.1 s.requires.0 _ i.loop-k-test.true c.write_step.ensures
-          (length-step _ _ (padded_plan s.args.v.now) _),
+      written_more c.loop-k.invariant.1 c.requires.0 _ c.loop-k-test.true c.write_step.ensures
+          (length-step _ _ (padded_plan c.args.v.now) _),
     )
 
 pub shape_of-plan : goal.shape_of-plan

@@ -15,8 +15,6 @@ write_numbers-requires-2 c = (search rules, wider c.requires.4 (omega arith))
 
 pub returns : goal.returns
 returns c =
-    let w = c.before.before.before.before.before in
-    let s = w.before.before.before in
-    let a = s.args in
-    both_listed a.m a.n a.part.now _ _ _ _ (omega arith) w.write_numbers.ensures
+    let a = c.args in
+    both_listed a.m a.n a.part.now _ _ _ _ (omega arith) c.write_numbers.ensures
     (c.write_numbers-2.ensures ∙ ap (listed _) (fun_ext (λ i. ap (at a.v.now) (omega arith))))

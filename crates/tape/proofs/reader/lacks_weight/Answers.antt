@@ -20,21 +20,18 @@ loop-column-init c = (omega arith, refl)
 pub returns-then-weight-column-le0 : goal.returns-then-weight-column-le0
 unfolding lacks_weight
 returns-then-weight-column-le0 c =
-    let s = c.before.before.before.before.before in
-    let a = s.args in
+    let a = c.args in
     let column = c.loop-column.column in
     let found = any_at (a.head.n + a.head.m) column (zero_at a.weight.now) (omega arith) (rw (called _ c.t10-1.given) at c.if-weight-column-le0.true) in
-    λ x e. rw (not-false a.head.banded s.if-not-head.false, e, found)
+    λ x e. rw (not-false a.head.banded c.if-not-head.false, e, found)
 
 pub loop-column-preserved : goal.loop-column-preserved
 loop-column-preserved c =
-    let l = c.before.before.before in
-    (omega arith, any_more l.loop-column.column (zero_at l.args.weight.now) l.loop-column.invariant.1 (rw (called _ c.t10-1.given) at c.if-weight-column-le0.false))
+    (omega arith, any_more c.loop-column.column (zero_at c.args.weight.now) c.loop-column.invariant.1 (rw (called _ c.t10-1.given) at c.if-weight-column-le0.false))
 
 pub returns : goal.returns
 unfolding lacks_weight
 returns c =
-    let s = c.before.before.before in
-    let a = s.args in
+    let a = c.args in
     let all : c.loop-column.column ≡ a.head.n + a.head.m = omega arith in
-    λ x e. rw (not-false a.head.banded s.if-not-head.false, e) (sym (rw all at c.loop-column.invariant.1))
+    λ x e. rw (not-false a.head.banded c.if-not-head.false, e) (sym (rw all at c.loop-column.invariant.1))

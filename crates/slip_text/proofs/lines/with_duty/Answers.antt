@@ -5,13 +5,11 @@ use Rattle.slip_text.proofs.lines.with_duty.Goals as goal
 
 pub overflow_cast-duty : goal.overflow_cast-duty
 overflow_cast-duty c =
-    let s = c.before.before.before in
-    (widened s.args.duty s.fits.duty.sfits).fits
+    (widened c.args.duty c.ranges.duty.sfits).fits
 
 pub returns-then-due : goal.returns-then-due
 returns-then-due c =
-    let s = c.before.before.before.before in
-    let number = rw (widened s.args.duty s.fits.duty.sfits).is at c.with_signed.ensures in
+    let number = rw (widened c.args.duty c.ranges.duty.sfits).is at c.with_signed.ensures in
     rw c.if-due.true (appended_then c.with_word-blank.ensures number)
 
 pub returns : goal.returns

@@ -6,11 +6,8 @@ use Rattle.slip_text.proofs.lines.with_ranges.Goals as goal
 
 pub returns : goal.returns
 returns c =
-    let three = c.before in
-    let two = three.before in
-    let one = two.before in
-    let a = one.args in
-    let q = a.fits in
-    let last = appended_then three.with_range-three.ensures (appended_then c.with_range.ensures (appended_none _)) in
+    let a = c.args in
+    let q = a.ranges in
+    let last = appended_then c.with_range-three.ensures (appended_then c.with_range.ensures (appended_none _)) in
     rw (sym (four_each range_line a.m q.u0 q.u1 q.u2 q.u3))
-    (appended_then one.with_range-one.ensures (appended_then two.with_range-two.ensures last))
+    (appended_then c.with_range-one.ensures (appended_then c.with_range-two.ensures last))

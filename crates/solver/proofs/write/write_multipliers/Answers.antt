@@ -13,12 +13,6 @@ use Rattle.solver.proofs.write.write_multipliers.Goals as goal
 room : (c : goal.In-loop-k) → c.loop-k.first + c.args.n ≤ length c.loop-k.multipliers
 room c = written_room c.loop-k.invariant.1 c.requires.0 c.loop-k-test.true
 
-part : (c : goal.In-loop-k) →
-    let l = c.loop-k in
-    let n = c.args.n in
-    length (mid_of l.first (l.first + n - l.first) l.multipliers) ≡ n
-part c = written_part c.loop-k.invariant.1 c.requires.0 c.loop-k-test.true
-
 pub loop-k-init : goal.loop-k-init
 loop-k-init c = (omega arith, written_none _ _ _)
 
@@ -28,21 +22,17 @@ overflow_add-end c = omega (arith, room c)
 pub offset_bounds-multipliers-first : goal.offset_bounds-multipliers-first
 offset_bounds-multipliers-first c = omega (arith, room c)
 
-
 pub write_numbers-requires : goal.write_numbers-requires
 write_numbers-requires c =
-    let i = c.before.before in
-    (omega (arith, part i, c.write_numbers-arg-in-loop-k-1.given), i.requires.3)
+    let part = written_part c.loop-k.invariant.1 c.requires.0 c.loop-k-test.true in
+    (omega (arith, part, c.write_numbers-arg-in-loop-k-1.given), c.requires.3)
 
 pub loop-k-preserved : goal.loop-k-preserved
 loop-k-preserved c =
-    let i = c.before.before.before.before in
-    let l = i.loop-k in
-    let s = i.before.before in (
+    let l = c.loop-k in
+    let part = written_part l.invariant.1 c.requires.0 c.loop-k-test.true in (
       omega arith,
-      written_more l.invariant.1 s.requires.0 _ i.loop-k-test.true
-          (c.write_numbers.ensures ∙ ap (λ (w : ℕ). listed w (padded s.args.y.now l.k)) (part i))
-          (length-listed _ _),
+      written_more l.invariant.1 c.requires.0 _ c.loop-k-test.true (c.write_numbers.ensures ∙ ap (λ (w : ℕ). listed w (padded c.args.y.now l.k)) part) (length-listed _ _),
     )
 
 pub shape_of-multipliers : goal.shape_of-multipliers

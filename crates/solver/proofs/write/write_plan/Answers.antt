@@ -21,7 +21,6 @@ overflow_add-end c = omega (arith, room c)
 pub offset_bounds-plan-first : goal.offset_bounds-plan-first
 offset_bounds-plan-first c = omega (arith, room c)
 
-
 pub write_step-requires : goal.write_step-requires
 write_step-requires c =
     (written_part c.loop-k.invariant.1 c.requires.0 c.loop-k-test.true, c.requires.1, c.requires.2, omega arith, c.requires.4)

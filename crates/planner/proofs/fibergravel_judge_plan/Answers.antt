@@ -10,14 +10,14 @@ use Rattle.planner.proofs.fibergravel_judge_plan.Goals as goal
 
 pub code-requires : goal.code-requires
 code-requires c =
-    let j = c.before.before.before in
+    let j = c in
     let a = j.args in
     rw (rw j.judge_plan-answer.ensures.value at c.in-Refused.is) at (small_judged a.tape.now a.plan.now a.multipliers.now)
 
 pub returns-in-Gap : goal.returns-in-Gap
 returns-in-Gap c =
-    let k = c.before.before in
-    let j = k.before.before in
+    let k = c in
+    let j = k in
     let a = j.args in
     let e = rw j.judge_plan-answer.ensures.value at k.in-Gap.is in
     judged_promise (judged a.tape.now a.plan.now a.multipliers.now) (reading a.tape.now).tape a.plan.now a.multipliers.now a.out.now j.judge_plan-answer.ensures
@@ -25,8 +25,8 @@ returns-in-Gap c =
 
 pub returns-in-Refused : goal.returns-in-Refused
 returns-in-Refused c =
-    let k = c.before.before in
-    let j = k.before.before in
+    let k = c in
+    let j = k in
     let a = j.args in
     let e = rw j.judge_plan-answer.ensures.value at k.in-Refused.is in
     judged_promise (judged a.tape.now a.plan.now a.multipliers.now) (reading a.tape.now).tape a.plan.now a.multipliers.now a.out.now j.judge_plan-answer.ensures

@@ -18,12 +18,12 @@ overflow_cast-result-5 c = (widened c.args.first.u3 c.struct_told-4-1.given.1.1.
 
 pub returns : goal.returns
 returns c =
-    let s = c.before.before.before.before.before.before.before.before in
+    let s = c in
     let f = s.args.first in
     let g = c.struct_told-4-1.given in
     rw (
       to_z_pos w64 {n = s.args.rounds} (omega arith),
-      to_z-of_z s.ranges.gap,
+      to_z-of_z s.fits.gap,
       (widened f.u0 g.0.1).is,
       (widened f.u1 g.1.0.1).is,
       (widened f.u2 g.1.1.0.1).is,

@@ -23,27 +23,27 @@ slices t e pivots correction h = rw h.0 at h.1
 
 pub code-requires : goal.code-requires
 code-requires c =
-    let b = called c.before.before.before in
+    let b = called c.before in
     let a = (start b).args in
     rw (rw b.banded_correction-answer.ensures.value at c.in-Refused.is) at (small_corrected a.tape.now a.residuals.now (length a.pivots.now) (length a.correction.now))
 
 pub returns-in-Written : goal.returns-in-Written
 returns-in-Written c =
-    let b = called c.before.before.before in
+    let b = called c.before.before in
     let h = b.banded_correction-answer.ensures in
     let e = rw h.value at c.in-Written.is in
     (rw e refl, (rw e refl, slices (reading (start b).args.tape.now).tape (start b).args.residuals.now (start b).args.pivots.now (start b).args.correction.now h))
 
 pub returns-in-Unused : goal.returns-in-Unused
 returns-in-Unused c =
-    let b = called c.before.before.before in
+    let b = called c.before.before in
     let h = b.banded_correction-answer.ensures in
     let e = rw h.value at c.in-Unused.is in
     (rw e refl, (rw e refl, slices (reading (start b).args.tape.now).tape (start b).args.residuals.now (start b).args.pivots.now (start b).args.correction.now h))
 
 pub returns-in-Refused : goal.returns-in-Refused
 returns-in-Refused c =
-    let b = called c.before.before.before.before in
+    let b = called c.before.before in
     let h = b.banded_correction-answer.ensures in
     let e = rw h.value at c.in-Refused.is in
     (rw e c.code.ensures, (rw e refl, slices (reading (start b).args.tape.now).tape (start b).args.residuals.now (start b).args.pivots.now (start b).args.correction.now h))

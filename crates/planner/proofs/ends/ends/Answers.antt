@@ -3,9 +3,9 @@ use Rattle.planner.proofs.ends.ends.Goals as goal
 
 pub returns : goal.returns
 returns c =
-    let three = c.before in
-    let two = three.before in
-    let one = two.before in
+    let three = c in
+    let two = three in
+    let one = two in
     let q = one.args.ranges in
     let a = one.struct_told-1.given in
     let b = two.struct_told-2-1.given in

@@ -5,14 +5,14 @@ use Rattle.planner.proofs.ends.fibergravel_ranges.Goals as goal
 
 pub code-requires : goal.code-requires
 code-requires c =
-    let j = c.before.before.before in
+    let j = c in
     let a = j.args in
     rw (rw j.judge_ranges-answer.ensures.value at c.in-Refused.is) at (small_ranging a.tape.now a.plan.now a.multipliers.now)
 
 pub returns-in-Ranges : goal.returns-in-Ranges
 returns-in-Ranges c =
-    let k = c.before.before in
-    let j = k.before.before in
+    let k = c in
+    let j = k in
     let a = j.args in
     let e = rw j.judge_ranges-answer.ensures.value at k.in-Ranges.is in
     ranges_promise (ranges_of a.tape.now a.plan.now a.multipliers.now) (reading a.tape.now).tape a.plan.now a.multipliers.now a.out.now
@@ -20,8 +20,8 @@ returns-in-Ranges c =
 
 pub returns-in-Refused : goal.returns-in-Refused
 returns-in-Refused c =
-    let k = c.before.before in
-    let j = k.before.before in
+    let k = c in
+    let j = k in
     let a = j.args in
     let e = rw j.judge_ranges-answer.ensures.value at k.in-Refused.is in
     ranges_promise (ranges_of a.tape.now a.plan.now a.multipliers.now) (reading a.tape.now).tape a.plan.now a.multipliers.now a.out.now

@@ -10,7 +10,7 @@ use Rattle.planner.proofs.imports.fibergravel_import_entry.Goals as goal
 pub returns-in-Whole : goal.returns-in-Whole
 unfolding of_bits of_fields odd
 returns-in-Whole c =
-    let k = c.before.before.before in
+    let k = c in
     let s = k.args in
     let n = k.in-Whole.number in
     entry_promise s.entry (Whole n) s.out.now s.leftover.now k.import_entry-answer.ensures k.in-Whole.is
@@ -18,7 +18,7 @@ returns-in-Whole c =
 
 pub returns-in-Near : goal.returns-in-Near
 returns-in-Near c =
-    let k = c.before.before.before in
+    let k = c in
     let s = k.args in
     let n = k.in-Near.number in
     entry_promise s.entry (Near n _) s.out.now s.leftover.now k.import_entry-answer.ensures k.in-Near.is

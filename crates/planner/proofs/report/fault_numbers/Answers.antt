@@ -6,7 +6,7 @@ use Rattle.planner.proofs.report.fault_numbers.Goals as goal
 
 pub returns : goal.returns
 returns c =
-    let s = c.before.before.before in
+    let s = c in
     let f = s.args.fault in
     let g = c.struct_told-1.given in
     rw (

@@ -26,12 +26,11 @@ write_step-requires c =
     (written_part c.loop-k.invariant.1 c.requires.0 c.loop-k-test.true, c.requires.1, c.requires.2, omega arith, c.requires.4)
 
 pub loop-k-preserved : goal.loop-k-preserved
-loop-k-preserved c =
-    (
-      omega arith,
-      written_more c.loop-k.invariant.1 c.requires.0 _ c.loop-k-test.true c.write_step.ensures
-          (length-step _ _ (padded_plan c.args.v.now) _),
-    )
+loop-k-preserved c = (
+  omega arith,
+  written_more c.loop-k.invariant.1 c.requires.0 _ c.loop-k-test.true c.write_step.ensures
+      (length-step _ _ (padded_plan c.args.v.now) _),
+)
 
 pub shape_of-plan : goal.shape_of-plan
 shape_of-plan c = c.loop-k.invariant.1.same

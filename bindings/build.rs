@@ -5,7 +5,7 @@ use std::env;
 use std::path::{Path, PathBuf};
 use std::process::ExitCode;
 
-/// Names a folder with libplanner.a other than the repository's target/staticlib.
+/// Names a folder with libplanner.a other than the repository's crates/planner/out.
 const FOLDER: &str = "FIBERGRAVEL_LIB_DIR";
 
 fn main() -> ExitCode {
@@ -15,7 +15,7 @@ fn main() -> ExitCode {
     println!("cargo:rerun-if-changed={}", library.display());
     if !library.is_file() {
         eprintln!("there is no {}", library.display());
-        eprintln!("run rt staticlib planner first");
+        eprintln!("run rt lib in crates/planner first");
         return ExitCode::FAILURE;
     }
     println!("cargo:rustc-link-search=native={}", folder.display());
@@ -27,6 +27,6 @@ fn main() -> ExitCode {
 fn folder() -> PathBuf {
     match env::var_os(FOLDER) {
         Some(folder) => PathBuf::from(folder),
-        None => Path::new(env!("CARGO_MANIFEST_DIR")).join("../target/staticlib"),
+        None => Path::new(env!("CARGO_MANIFEST_DIR")).join("../crates/planner/out"),
     }
 }

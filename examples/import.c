@@ -4,7 +4,7 @@
  * a unit of duty adds half a tenth of a degree, B = 0.5. Other numbers may be given in their place.
  *
  *     rt staticlib planner
- *     cc -Iinclude examples/import.c target/staticlib/libplanner.a -o import
+ *     cc -Iinclude examples/import.c crates/planner/out/libplanner.a -o import
  *     ./import [A B]
  *
  * Exit status: 0 where a slip was printed, whatever it says; 1 where none was; 2 for wrong arguments.

@@ -4,7 +4,7 @@
  * refusal.
  *
  *     rt staticlib planner
- *     cc -Iinclude examples/judge.c target/staticlib/libplanner.a -o judge
+ *     cc -Iinclude examples/judge.c crates/planner/out/libplanner.a -o judge
  *     ./judge TAPE PLAN
  *
  * A plan file is a text of words with blanks and line ends between them: `plan` and the plan's numbers,

@@ -3,7 +3,7 @@
  * that the service gets, in hexadecimal, or the tape's refusal.
  *
  *     rt staticlib planner
- *     cc -Iinclude examples/record.c target/staticlib/libplanner.a -o record
+ *     cc -Iinclude examples/record.c crates/planner/out/libplanner.a -o record
  *     ./record TAPE
  *
  * Exit status: 0 where a record was printed, whatever its kind; 1 where none was; 2 for wrong arguments.

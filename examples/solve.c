@@ -3,7 +3,7 @@
  * it does with the tape stands in slip.h.
  *
  *     rt staticlib planner
- *     cc -Iinclude examples/solve.c target/staticlib/libplanner.a -o solve
+ *     cc -Iinclude examples/solve.c crates/planner/out/libplanner.a -o solve
  *     ./solve TAPE
  *
  * Exit status: 0 where a slip was printed, whatever it says; 1 where none was; 2 for wrong arguments.

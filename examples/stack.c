@@ -5,7 +5,7 @@
  * the largest sizes that is made here, and then those of the files.
  *
  *     rt staticlib planner
- *     cc -Iinclude -pthread examples/stack.c target/staticlib/libplanner.a -o stack
+ *     cc -Iinclude -pthread examples/stack.c crates/planner/out/libplanner.a -o stack
  *     ./stack TAPE...
  */
 #define _GNU_SOURCE

@@ -77,7 +77,7 @@ comparison memory [COUNT [SEED]]
     write outside what is lent:
         valgrind -q --error-exitcode=1 target/release/comparison memory
 
-The program slip is target/bin/slip of the repository, or what FIBERGRAVEL_SLIP names.
+The program slip is crates/slip/out/slip of the repository, or what FIBERGRAVEL_SLIP names.
 ";
 
 fn main() -> ExitCode {

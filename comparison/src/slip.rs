@@ -7,7 +7,7 @@ use std::process::{Command, Stdio};
 use std::thread::sleep;
 use std::time::Duration;
 
-/// Names a slip program other than the repository's target/bin/slip.
+/// Names a slip program other than the repository's crates/slip/out/slip.
 const PROGRAM: &str = "FIBERGRAVEL_SLIP";
 
 /// Between two parts of an input that is written in parts, so that the program reads each alone.
@@ -17,7 +17,7 @@ const PAUSE: Duration = Duration::from_millis(3);
 pub fn program() -> Result<PathBuf, String> {
     let program = match env::var_os(PROGRAM) {
         Some(program) => PathBuf::from(program),
-        None => Path::new(env!("CARGO_MANIFEST_DIR")).join("../target/bin/slip"),
+        None => Path::new(env!("CARGO_MANIFEST_DIR")).join("../crates/slip/out/slip"),
     };
     if !program.is_file() {
         let missing = program.display();

@@ -1,7 +1,7 @@
 use mathlib.Core.Path.{ap}
 use mathlib.Core.List.{[], ◌∷◌}
 use lib.IntN.{ℤ}
-use Rattle.integer.proofs.Sizes.{called}
+use Rattle.integer.proofs.Sizes.{back, called}
 use Rattle.tape.specs.Reading.{reading}
 use Rattle.judge.specs.Judging.{judged}
 use Rattle.planner.proofs.Figures.{small_judged}
@@ -10,24 +10,24 @@ use Rattle.planner.proofs.fibergravel_judge_plan.Goals as goal
 
 pub code-requires : goal.code-requires
 code-requires c =
-    let j = c in
-    let a = j.args in
-    rw (rw j.judge_plan-answer.ensures.value at c.in-Refused.is) at (small_judged a.tape.now a.plan.now a.multipliers.now)
+    let a = c.args in
+    rw (rw c.judge_plan-answer.ensures.value at c.in-Refused.is) at (small_judged a.tape.now a.plan.now a.multipliers.now)
 
 pub returns-in-Gap : goal.returns-in-Gap
 returns-in-Gap c =
-    let k = c in
-    let j = k in
-    let a = j.args in
-    let e = rw j.judge_plan-answer.ensures.value at k.in-Gap.is in
-    judged_promise (judged a.tape.now a.plan.now a.multipliers.now) (reading a.tape.now).tape a.plan.now a.multipliers.now a.out.now j.judge_plan-answer.ensures
-    (rw e) (rw e (ap (λ (gap : ℤ). gap ∷ []) (called k.in-Gap.gap c.in-Gap.known_told-1-own.given.0.1)))
+    let a = c.args in
+    let h = c.judge_plan-answer.ensures in
+    let e = rw h.value at c.in-Gap.is in
+    let p = judged_promise (judged a.tape.now a.plan.now a.multipliers.now) (reading a.tape.now).tape a.plan.now a.multipliers.now a.out.now
+    {number = 0} {out = back c.in-Gap.gap ∷ []} (h.value, h.backed, h.reasoned)
+    (rw e) (rw e (ap (λ (gap : ℤ). gap ∷ []) (called c.in-Gap.gap c.in-Gap.known_told-1-own.given.0.1))) in
+    record { value = p.0; out_after = p.1.0; backed_by = p.1.1 }
 
 pub returns-in-Refused : goal.returns-in-Refused
 returns-in-Refused c =
-    let k = c in
-    let j = k in
-    let a = j.args in
-    let e = rw j.judge_plan-answer.ensures.value at k.in-Refused.is in
-    judged_promise (judged a.tape.now a.plan.now a.multipliers.now) (reading a.tape.now).tape a.plan.now a.multipliers.now a.out.now j.judge_plan-answer.ensures
-    (rw e c.code.ensures) (rw e)
+    let a = c.args in
+    let h = c.judge_plan-answer.ensures in
+    let e = rw h.value at c.in-Refused.is in
+    let p = judged_promise (judged a.tape.now a.plan.now a.multipliers.now) (reading a.tape.now).tape a.plan.now a.multipliers.now a.out.now
+    {number = c.code.result} {out = a.out.now} (h.value, h.backed, h.reasoned) (rw e c.code.ensures) (rw e) in
+    record { value = p.0; out_after = p.1.0; backed_by = p.1.1 }

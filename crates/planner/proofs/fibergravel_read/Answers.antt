@@ -6,21 +6,14 @@ use Rattle.planner.proofs.fibergravel_read.Goals as goal
 
 pub numbers_of-requires : goal.numbers_of-requires
 numbers_of-requires c =
-    let r = c in
-    let k = r in
-    rw r.read-result.ensures (legal k.args.tape.now (bytes_of k.shared_slice_known-1.given) (rw r.read-result.ensures at c.in-Accepted.is))
+    rw c.read-result.ensures (legal c.args.tape.now (bytes_of c.shared_slice_known-1.given) (rw c.read-result.ensures at c.in-Accepted.is))
 
 pub code-requires : goal.code-requires
-code-requires c =
-    let r = c in
-    rw (rw r.read-result.ensures at c.in-Refused.is) at (small_read r.args.tape.now)
+code-requires c = rw (rw c.read-result.ensures at c.in-Refused.is) at (small_read c.args.tape.now)
 
 pub returns-in-Accepted : goal.returns-in-Accepted
 returns-in-Accepted c =
-    let r = c in
-    rw (rw r.read-result.ensures at c.in-Accepted.is) (refl, rw r.read-result.ensures at c.Numbers-of.ensures)
+    rw (rw c.read-result.ensures at c.in-Accepted.is) (record { value = refl; out_after = rw c.read-result.ensures at c.numbers_of.ensures })
 
 pub returns-in-Refused : goal.returns-in-Refused
-returns-in-Refused c =
-    let k = c in
-    rw (rw k.read-result.ensures at k.in-Refused.is) (c.code.ensures, refl)
+returns-in-Refused c = rw (rw c.read-result.ensures at c.in-Refused.is) (record { value = c.code.ensures; out_after = refl })

@@ -18,12 +18,11 @@ overflow_cast-result-5 c = (widened c.args.first.u3 c.struct_told-4-1.given.1.1.
 
 pub returns : goal.returns
 returns c =
-    let s = c in
-    let f = s.args.first in
+    let f = c.args.first in
     let g = c.struct_told-4-1.given in
     rw (
-      to_z_pos w64 {n = s.args.rounds} (omega arith),
-      to_z-of_z s.fits.gap,
+      to_z_pos w64 {n = c.args.rounds} (omega arith),
+      to_z-of_z c.ranges.gap,
       (widened f.u0 g.0.1).is,
       (widened f.u1 g.1.0.1).is,
       (widened f.u2 g.1.1.0.1).is,

@@ -3,13 +3,10 @@ use Rattle.planner.proofs.ends.ends.Goals as goal
 
 pub returns : goal.returns
 returns c =
-    let three = c in
-    let two = three in
-    let one = two in
-    let q = one.args.ranges in
-    let a = one.struct_told-1.given in
-    let b = two.struct_told-2-1.given in
-    let d = three.struct_told-3-1.given in
+    let q = c.args.ranges in
+    let a = c.struct_told-1.given in
+    let b = c.struct_told-2-1.given in
+    let d = c.struct_told-3-1.given in
     let e = c.struct_told-4-1.given in
     rw (
       called q.u0.low a.0.1,

@@ -1,50 +1,47 @@
-use mathlib.Core.Path.{◌≡◌}
+use mathlib.Core.List.{[], ◌∷◌}
 use lib.ListN.{length}
+use lib.IntN.{pos}
 use Rattle.integer.proofs.Operand.{bytes_of}
-use Rattle.recorder.specs.declared.Recorded.{Recorded}
-use Rattle.planner.proofs.Recorded.{SmallRecorded, small_recorded, recorded_promise}
+use Rattle.planner.proofs.Recorded.{small_recorded, recorded_promise}
 use Rattle.planner.proofs.record.fibergravel_record.Goals as goal
-use Rattle.planner.proofs.record.fibergravel_record.Tie as tie
-use Rattle.planner.proofs.record.fibergravel_record.Reads as reads
-use Rattle.planner.proofs.record.fibergravel_record.Lts as lts
-
-abbrev start : lts.After-write_record tie.the-claims reads.Pre reads.Post tie.handed_clauses → goal.Start
-start c = c.before.before.before.before.before.before
-
--- the figure of a refusal is small
-small : (c : lts.After-write_record tie.the-claims reads.Pre reads.Post tie.handed_clauses) {r : Recorded} → c.write_record-answer.result ≡ r → SmallRecorded r
-small c h =
-    let a = (start c).args in
-    rw (rw c.write_record-answer.ensures.value at h) at (small_recorded a.tape.now (bytes_of c.shared_slice_known-1.given) (length a.laboratory.now) (length a.service.now))
 
 pub code-requires : goal.code-requires
-code-requires c = let k = c in small k.before.before.before.before.before k.in-Refused.is
+code-requires c =
+    let a = c.args in
+    rw (rw c.write_record-answer.ensures.value at c.in-Refused.is) at (small_recorded a.tape.now (bytes_of c.shared_slice_known-1.given) (length a.laboratory.now) (length a.service.now))
 
 pub returns-in-Proved : goal.returns-in-Proved
 returns-in-Proved c =
-    let w = c in
-    let a = (start w.before.before.before.before.before.before).args in
-    let e = rw w.write_record-answer.ensures.value at c.in-Proved.is in
-    recorded_promise a.tape.now a.out.now a.laboratory.now a.service.now w.write_record-answer.ensures (rw e) (rw e)
+    let a = c.args in
+    let h = c.write_record-answer.ensures in
+    let e = rw h.value at c.in-Proved.is in
+    let p = recorded_promise a.tape.now a.out.now a.laboratory.now a.service.now {number = 0} {out = pos 1 ∷ []}
+    (h.value, h.laboratory_after, h.service_after, h.upheld_in) (rw e) (rw e) in
+    record { value = p.0; out_after = p.1.0; laboratory_after = p.1.1.0; service_after = p.1.1.1.0; upheld_in_by = p.1.1.1.1 }
 
 pub returns-in-Impossible : goal.returns-in-Impossible
 returns-in-Impossible c =
-    let w = c in
-    let a = (start w.before.before.before.before.before.before).args in
-    let e = rw w.write_record-answer.ensures.value at c.in-Impossible.is in
-    recorded_promise a.tape.now a.out.now a.laboratory.now a.service.now w.write_record-answer.ensures (rw e) (rw e)
+    let a = c.args in
+    let h = c.write_record-answer.ensures in
+    let e = rw h.value at c.in-Impossible.is in
+    let p = recorded_promise a.tape.now a.out.now a.laboratory.now a.service.now {number = 0} {out = pos 2 ∷ []}
+    (h.value, h.laboratory_after, h.service_after, h.upheld_in) (rw e) (rw e) in
+    record { value = p.0; out_after = p.1.0; laboratory_after = p.1.1.0; service_after = p.1.1.1.0; upheld_in_by = p.1.1.1.1 }
 
 pub returns-in-Open : goal.returns-in-Open
 returns-in-Open c =
-    let w = c in
-    let a = (start w.before.before.before.before.before.before).args in
-    let e = rw w.write_record-answer.ensures.value at c.in-Open.is in
-    recorded_promise a.tape.now a.out.now a.laboratory.now a.service.now w.write_record-answer.ensures (rw e) (rw e)
+    let a = c.args in
+    let h = c.write_record-answer.ensures in
+    let e = rw h.value at c.in-Open.is in
+    let p = recorded_promise a.tape.now a.out.now a.laboratory.now a.service.now {number = 0} {out = pos 3 ∷ []}
+    (h.value, h.laboratory_after, h.service_after, h.upheld_in) (rw e) (rw e) in
+    record { value = p.0; out_after = p.1.0; laboratory_after = p.1.1.0; service_after = p.1.1.1.0; upheld_in_by = p.1.1.1.1 }
 
 pub returns-in-Refused : goal.returns-in-Refused
 returns-in-Refused c =
-    let k = c in
-    let w = k in
-    let a = (start w.before.before.before.before.before.before).args in
-    let e = rw w.write_record-answer.ensures.value at k.in-Refused.is in
-    recorded_promise a.tape.now a.out.now a.laboratory.now a.service.now w.write_record-answer.ensures (rw e c.code.ensures) (rw e)
+    let a = c.args in
+    let h = c.write_record-answer.ensures in
+    let e = rw h.value at c.in-Refused.is in
+    let p = recorded_promise a.tape.now a.out.now a.laboratory.now a.service.now {number = c.code.result} {out = a.out.now}
+    (h.value, h.laboratory_after, h.service_after, h.upheld_in) (rw e c.code.ensures) (rw e) in
+    record { value = p.0; out_after = p.1.0; laboratory_after = p.1.1.0; service_after = p.1.1.1.0; upheld_in_by = p.1.1.1.1 }

@@ -6,11 +6,10 @@ use Rattle.planner.proofs.report.fault_numbers.Goals as goal
 
 pub returns : goal.returns
 returns c =
-    let s = c in
-    let f = s.args.fault in
+    let f = c.args.fault in
     let g = c.struct_told-1.given in
     rw (
-      to_z_pos w64 {n = s.args.refusal} (omega arith),
+      to_z_pos w64 {n = c.args.refusal} (omega arith),
       to_z_pos w64 {n = f.step} (omega arith),
       to_z_pos w64 {n = f.column} (omega arith),
       called f.found g.1.1.0.1,

@@ -6,7 +6,6 @@ use Rattle.planner.proofs.report.span_numbers.Goals as goal
 
 pub returns : goal.returns
 returns c =
-    let s = c in
     let g = c.struct_told-1.given in
-    let f = s.args.span in
-    rw (to_z_pos w64 {n = s.args.refusal} (omega arith), called f.cost g.0.1, called f.floor g.1.0.1)
+    let f = c.args.span in
+    rw (to_z_pos w64 {n = c.args.refusal} (omega arith), called f.cost g.0.1, called f.floor g.1.0.1)

@@ -19,7 +19,7 @@ returns-in-Gap c =
     let h = c.judge_plan-answer.ensures in
     let e = rw h.value at c.in-Gap.is in
     let p = judged_promise (judged a.tape.now a.plan.now a.multipliers.now) (reading a.tape.now).tape a.plan.now a.multipliers.now a.out.now
-    {number = 0} {out = back c.in-Gap.gap ∷ []} (h.value, h.backed, h.reasoned)
+    {number = 0} {out = back c.in-Gap.gap ∷ []} (h.value, (h.backed, h.reasoned))
     (rw e) (rw e (ap (λ (gap : ℤ). gap ∷ []) (called c.in-Gap.gap c.in-Gap.known_told-1-own.given.0.1))) in
     record { value = p.0; out_after = p.1.0; backed_by = p.1.1 }
 
@@ -29,5 +29,5 @@ returns-in-Refused c =
     let h = c.judge_plan-answer.ensures in
     let e = rw h.value at c.in-Refused.is in
     let p = judged_promise (judged a.tape.now a.plan.now a.multipliers.now) (reading a.tape.now).tape a.plan.now a.multipliers.now a.out.now
-    {number = c.code.result} {out = a.out.now} (h.value, h.backed, h.reasoned) (rw e c.code.ensures) (rw e) in
+    {number = c.code.result} {out = a.out.now} (h.value, (h.backed, h.reasoned)) (rw e c.code.ensures) (rw e) in
     record { value = p.0; out_after = p.1.0; backed_by = p.1.1 }

@@ -38,7 +38,7 @@ returns-in-Proved c =
     let h = s.ensures in
     let e = rw h.value at c.in-Proved.is in
     let p = solved_promise a.tape.now a.plan.now a.multipliers.now a.out.now s.new.plan s.new.multipliers {number = 0} {out = c.proved_numbers.result}
-    (h.value, h.plan_after, h.multipliers_after, h.rounds_within, h.judged_again, h.upheld)
+    (h.value, (h.plan_after, (h.multipliers_after, (h.rounds_within, (h.judged_again, h.upheld)))))
     (rw e) (rw e (rw (called c.in-Proved.gap c.in-Proved.known_told-1-own.given.1.0.1) at c.proved_numbers.ensures)) in
     record { value = p.0; out_after = p.1.0; plan_after = p.1.1.0; multipliers_after = p.1.1.1.0; rounds_by = p.1.1.1.1.0; again_by = p.1.1.1.1.1.0; upheld_by = p.1.1.1.1.1.1 }
 
@@ -51,7 +51,7 @@ returns-in-Impossible c =
     let n = c.in-Impossible.rounds in
     let p = solved_promise a.tape.now a.plan.now a.multipliers.now a.out.now s.new.plan s.new.multipliers
     {number = 0} {out = pos 2 ∷ to_z w64 n ∷ pos 0 ∷ pos 0 ∷ pos 0 ∷ pos 0 ∷ pos 0 ∷ []}
-    (h.value, h.plan_after, h.multipliers_after, h.rounds_within, h.judged_again, h.upheld)
+    (h.value, (h.plan_after, (h.multipliers_after, (h.rounds_within, (h.judged_again, h.upheld)))))
     (rw e) (rw (e, to_z_pos w64 {n = n} (omega (arith, small c.before.before.before.before.before c.in-Impossible.is)))) in
     record { value = p.0; out_after = p.1.0; plan_after = p.1.1.0; multipliers_after = p.1.1.1.0; rounds_by = p.1.1.1.1.0; again_by = p.1.1.1.1.1.0; upheld_by = p.1.1.1.1.1.1 }
 
@@ -62,5 +62,5 @@ returns-in-Refused c =
     let h = s.ensures in
     let e = rw h.value at c.in-Refused.is in
     let p = solved_promise a.tape.now a.plan.now a.multipliers.now a.out.now s.new.plan s.new.multipliers {number = c.code.result} {out = a.out.now}
-    (h.value, h.plan_after, h.multipliers_after, h.rounds_within, h.judged_again, h.upheld) (rw e c.code.ensures) (rw e) in
+    (h.value, (h.plan_after, (h.multipliers_after, (h.rounds_within, (h.judged_again, h.upheld))))) (rw e c.code.ensures) (rw e) in
     record { value = p.0; out_after = p.1.0; plan_after = p.1.1.0; multipliers_after = p.1.1.1.0; rounds_by = p.1.1.1.1.0; again_by = p.1.1.1.1.1.0; upheld_by = p.1.1.1.1.1.1 }

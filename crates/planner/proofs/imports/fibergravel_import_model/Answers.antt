@@ -13,12 +13,12 @@ pub returns-in-Written : goal.returns-in-Written
 returns-in-Written c =
     let s = c.args in
     let h = c.import_model-answer.ensures in
-    let p = model_promise s.n s.m s.a.now s.b.now s.out.now Written (h.value, h.out_after, h.read_back) c.in-Written.is refl in
+    let p = model_promise s.n s.m s.a.now s.b.now s.out.now Written (h.value, (h.out_after, h.read_back)) c.in-Written.is refl in
     record { value = p.0; out_after = p.1.0; read_back_by = p.1.1 }
 
 pub returns-in-Refused : goal.returns-in-Refused
 returns-in-Refused c =
     let s = c.args in
     let h = c.import_model-answer.ensures in
-    let p = model_promise s.n s.m s.a.now s.b.now s.out.now (Refused _) (h.value, h.out_after, h.read_back) c.in-Refused.is c.code.ensures in
+    let p = model_promise s.n s.m s.a.now s.b.now s.out.now (Refused _) (h.value, (h.out_after, h.read_back)) c.in-Refused.is c.code.ensures in
     record { value = p.0; out_after = p.1.0; read_back_by = p.1.1 }

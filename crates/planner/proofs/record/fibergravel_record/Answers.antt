@@ -16,7 +16,7 @@ returns-in-Proved c =
     let h = c.write_record-answer.ensures in
     let e = rw h.value at c.in-Proved.is in
     let p = recorded_promise a.tape.now a.out.now a.laboratory.now a.service.now {number = 0} {out = pos 1 ∷ []}
-    (h.value, h.laboratory_after, h.service_after, h.upheld_in) (rw e) (rw e) in
+    (h.value, (h.laboratory_after, (h.service_after, h.upheld_in))) (rw e) (rw e) in
     record { value = p.0; out_after = p.1.0; laboratory_after = p.1.1.0; service_after = p.1.1.1.0; upheld_in_by = p.1.1.1.1 }
 
 pub returns-in-Impossible : goal.returns-in-Impossible
@@ -25,7 +25,7 @@ returns-in-Impossible c =
     let h = c.write_record-answer.ensures in
     let e = rw h.value at c.in-Impossible.is in
     let p = recorded_promise a.tape.now a.out.now a.laboratory.now a.service.now {number = 0} {out = pos 2 ∷ []}
-    (h.value, h.laboratory_after, h.service_after, h.upheld_in) (rw e) (rw e) in
+    (h.value, (h.laboratory_after, (h.service_after, h.upheld_in))) (rw e) (rw e) in
     record { value = p.0; out_after = p.1.0; laboratory_after = p.1.1.0; service_after = p.1.1.1.0; upheld_in_by = p.1.1.1.1 }
 
 pub returns-in-Open : goal.returns-in-Open
@@ -34,7 +34,7 @@ returns-in-Open c =
     let h = c.write_record-answer.ensures in
     let e = rw h.value at c.in-Open.is in
     let p = recorded_promise a.tape.now a.out.now a.laboratory.now a.service.now {number = 0} {out = pos 3 ∷ []}
-    (h.value, h.laboratory_after, h.service_after, h.upheld_in) (rw e) (rw e) in
+    (h.value, (h.laboratory_after, (h.service_after, h.upheld_in))) (rw e) (rw e) in
     record { value = p.0; out_after = p.1.0; laboratory_after = p.1.1.0; service_after = p.1.1.1.0; upheld_in_by = p.1.1.1.1 }
 
 pub returns-in-Refused : goal.returns-in-Refused
@@ -43,5 +43,5 @@ returns-in-Refused c =
     let h = c.write_record-answer.ensures in
     let e = rw h.value at c.in-Refused.is in
     let p = recorded_promise a.tape.now a.out.now a.laboratory.now a.service.now {number = c.code.result} {out = a.out.now}
-    (h.value, h.laboratory_after, h.service_after, h.upheld_in) (rw e c.code.ensures) (rw e) in
+    (h.value, (h.laboratory_after, (h.service_after, h.upheld_in))) (rw e c.code.ensures) (rw e) in
     record { value = p.0; out_after = p.1.0; laboratory_after = p.1.1.0; service_after = p.1.1.1.0; upheld_in_by = p.1.1.1.1 }

@@ -3,7 +3,7 @@
  * firing slip as solve.c does. It is document 01's tape F: the state keeps its temperature, A = 1, and
  * a unit of duty adds half a tenth of a degree, B = 0.5. Other numbers may be given in their place.
  *
- *     rt staticlib planner
+ *     (cd crates/planner && rt lib)
  *     cc -Iinclude examples/import.c crates/planner/out/libplanner.a -o import
  *     ./import [A B]
  *

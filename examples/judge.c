@@ -3,7 +3,7 @@
  * an accepted plan, the place where the plan fails, cost and floor where the gap is too wide, or the
  * refusal.
  *
- *     rt staticlib planner
+ *     (cd crates/planner && rt lib)
  *     cc -Iinclude examples/judge.c crates/planner/out/libplanner.a -o judge
  *     ./judge TAPE PLAN
  *

@@ -2,7 +2,7 @@
  * Prints the record of a firing for the tape in a file: the bytes that the laboratory gets, and the bytes
  * that the service gets, in hexadecimal, or the tape's refusal.
  *
- *     rt staticlib planner
+ *     (cd crates/planner && rt lib)
  *     cc -Iinclude examples/record.c crates/planner/out/libplanner.a -o record
  *     ./record TAPE
  *

@@ -2,7 +2,7 @@
  * Prints the firing slip of the tape in a file, and judges what the solve left before it does so. What
  * it does with the tape stands in slip.h.
  *
- *     rt staticlib planner
+ *     (cd crates/planner && rt lib)
  *     cc -Iinclude examples/solve.c crates/planner/out/libplanner.a -o solve
  *     ./solve TAPE
  *

@@ -4,7 +4,7 @@
  * them each thread used, its own start included; the thread `nothing` makes no call. They get a tape of
  * the largest sizes that is made here, and then those of the files.
  *
- *     rt staticlib planner
+ *     (cd crates/planner && rt lib)
  *     cc -Iinclude -pthread examples/stack.c crates/planner/out/libplanner.a -o stack
  *     ./stack TAPE...
  */

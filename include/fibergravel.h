@@ -5,8 +5,8 @@
  * service, shows the floats of a banded step, and turns a model in floats into commands of a tape.
  * docs/TAPE.md has the tape's format.
  *
- * Link with libplanner.a, which `rt staticlib planner` writes to target/staticlib/. It is compiled for
- * x86-64 Linux, and needs memcpy and memset from outside and nothing else.
+ * Link with libplanner.a, which `rt lib` in crates/planner writes to crates/planner/out/. It is
+ * compiled for x86-64 Linux, and needs memcpy and memset from outside and nothing else.
  *
  * For ever. A call that stands here keeps its name, its arguments and the places of its `out`. What is
  * added later comes as a new call, a new command of the tape or a wider range in one, a new refusal, or a

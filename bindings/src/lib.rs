@@ -1,6 +1,6 @@
 //! The proved sinter furnace planner for Rust programs.
 //!
-//! This crate links `libplanner.a`, which `rt staticlib planner` writes, and wraps its twelve calls.
+//! This crate links `libplanner.a`, which `rt lib` in crates/planner writes, and wraps its twelve calls.
 //! Ten take a tape's bytes; [`import_model`] writes the model's commands for a tape from floats,
 //! and [`import_entry`] rounds a single one. Every call may be lent anything: what the papers
 //! refuse comes back as a [`Refusal`], and then no lent number has changed. Of a plan that fails,

@@ -34,14 +34,9 @@ pub fn write_record(tape: &[u8], laboratory: &mut [u8], service: &mut [u8]) -> R
     ensures service_after { service.new ≡ service_left (recorded_at tape.now (length laboratory.old) (length service.old)) service.old }
     ensures upheld_in { UpheldIn result (reading tape.now).tape laboratory.new service.new }
 {
-    let result = read(tape);
+    let result = sizes_read(tape);
     let answer = result.answer;
-    let t = result.tape;
-    let sizes = Sizes {
-        n: t.n,
-        m: t.m,
-        horizon: t.horizon,
-    };
+    let sizes = result.sizes;
     match answer {
         Answer::Accepted => {
             if is_wrong_length(sizes, laboratory.len(), service.len()) {
@@ -50,6 +45,30 @@ pub fn write_record(tape: &[u8], laboratory: &mut [u8], service: &mut [u8]) -> R
             write_solved(tape, sizes, laboratory, service)
         }
         Answer::Refused(why) => Recorded::Refused(why),
+    }
+}
+
+// What reading says of a tape, and its sizes.
+#[derive(Clone, Copy)]
+struct SizesRead {
+    answer: Answer,
+    sizes: Sizes,
+}
+
+// Never inlined, so that the tape's numbers are off the stack while it is solved.
+#[inline(never)]
+fn sizes_read(tape: &[u8]) -> SizesRead
+    ensures { (result.answer ≡ (reading tape.now).answer) × (result.sizes ≡ sizes_of (reading tape.now).tape) }
+{
+    let result = read(tape);
+    let t = result.tape;
+    SizesRead {
+        answer: result.answer,
+        sizes: Sizes {
+            n: t.n,
+            m: t.m,
+            horizon: t.horizon,
+        },
     }
 }
 

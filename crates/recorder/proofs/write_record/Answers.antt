@@ -15,13 +15,13 @@ use Rattle.recorder.proofs.write_record.Goals.{After-is_wrong_length}
 -- the tape is accepted, and the lengths are tested
 module _ (c : After-is_wrong_length) where
   accepted : (reading c.args.tape.now).answer ≡ Accepted
-  accepted = rw c.read-result.ensures at c.in-Accepted.is
+  accepted = sym c.sizes_read-result.ensures.0 ∙ c.in-Accepted.is
 
   tested : let a = c.args in c.is_wrong_length.result ≡ wrong_lengths (sizes_of (reading a.tape.now).tape) (length a.laboratory.now) (length a.service.now)
-  tested = rw c.read-result.ensures at c.is_wrong_length.ensures
+  tested = rw c.sizes_read-result.ensures.1 at c.is_wrong_length.ensures
 
 pub is_wrong_length-requires : goal.is_wrong_length-requires
-is_wrong_length-requires c = rw c.read-result.ensures (fitting c.args.tape.now (bytes_of c.shared_slice_known-1.given))
+is_wrong_length-requires c = rw c.sizes_read-result.ensures.1 (fitting c.args.tape.now (bytes_of c.shared_slice_known-1.given))
 
 pub returns-then-is_wrong_length : goal.returns-then-is_wrong_length
 returns-then-is_wrong_length c =
@@ -38,7 +38,7 @@ write_solved-requires c =
     let w = (goal.at.write_solved-requires c).After-is_wrong_length in
     let a = c.args in
     let h = right_lengths (sizes_of (reading a.tape.now).tape) (length a.laboratory.now) (length a.service.now) (sym (tested w) ∙ c.if-is_wrong_length.false) in
-    rw c.read-result.ensures (refl, h.0, h.1)
+    rw c.sizes_read-result.ensures.1 (refl, h.0, h.1)
 
 pub returns-else-is_wrong_length : goal.returns-else-is_wrong_length
 returns-else-is_wrong_length c =
@@ -58,6 +58,6 @@ returns-in-Refused c =
     let a = c.args in
     let l = a.laboratory.now in
     let s = a.service.now in
-    let h = tape-refused a.tape.now (length l) (length s) (rw c.read-result.ensures at c.in-Refused.is) in
+    let h = tape-refused a.tape.now (length l) (length s) (sym c.sizes_read-result.ensures.0 ∙ c.in-Refused.is) in
     let p = record_promise a.tape.now (length l) (length s) l s {r = Refused c.in-Refused.why} {left = l} {left' = s} (bytes_of c.shared_slice_known-1.given) (rw h refl) (rw h refl) (rw h refl) in
     record { value = p.0; laboratory_after = p.1.0; service_after = p.1.1.0; upheld_in = p.1.1.1 }

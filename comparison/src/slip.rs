@@ -21,7 +21,9 @@ pub fn program() -> Result<PathBuf, String> {
     };
     if !program.is_file() {
         let missing = program.display();
-        return Err(format!("there is no {missing}: run rt run in crates/slip first"));
+        return Err(format!(
+            "there is no {missing}: run rt run in crates/slip first"
+        ));
     }
     Ok(program)
 }

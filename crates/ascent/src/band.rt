@@ -23,11 +23,8 @@ pub fn right_sides(e: &[i64; 72], n: usize, count: usize) -> [f64; 72]
     ensures { Holds count (λ a. float (at e.now (6 * (a / n) + a % n))) result }
 {
     let mut sides = [0.0f64; 72];
-    let mut a: usize = 0;
-    while a < count {
-        let p = place_of(a, n);
-        sides[a] = e[p] as f64;
-        a += 1;
+    for a in 0..count {
+        sides[a] = e[place_of(a, n)] as f64;
     }
     sides
 }
@@ -49,12 +46,9 @@ pub fn multipliers_by_rows(y: &[i64; 72], d: &[f64; 72], n: usize, horizon: usiz
     requires { (n ≤ 6) × (horizon ≤ 12) × Bounded most_multiplier y.now }
     ensures { Stretch 0 (6 * horizon) (banded_next n y.now d.now) (replicate 72 (pos 0)) result }
 {
-    let count = 6 * horizon;
     let mut next = [0i64; 72];
-    let mut p: usize = 0;
-    while p < count {
+    for p in 0..6 * horizon {
         next[p] = multiplier_at(y, d, n, p);
-        p += 1;
     }
     next
 }

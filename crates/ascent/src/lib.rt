@@ -17,8 +17,8 @@ use banded::solve::correction_of;
 use tape::Tape;
 
 // From the tape's eliminated rows.
-pub fn ascend_by_band(t: Tape, rows: [Row; 72], ahead: [i64; 72], e: [i64; 72]) -> [i64; 72]
-    requires { Legal t × (uses_band t ≡ true) × TapeRows t rows × HeldStep t ahead e }
+pub fn ascend_by_band(t: Tape, rows: &[Row; 72], ahead: [i64; 72], e: [i64; 72]) -> [i64; 72]
+    requires { Legal t × (uses_band t ≡ true) × TapeRows t rows.now × HeldStep t ahead e }
     ensures { Ascended t ahead e result }
 {
     let n = t.n;

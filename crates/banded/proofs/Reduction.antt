@@ -2,17 +2,16 @@
 use Prim.Native.Nat.{ℕ, suc, ◌+◌, ◌-◌, ◌<◌, ◌≤◌}
 use mathlib.Core.Path.{◌≡◌, refl, sym, ap, ap₂, ◌∙◌}
 use mathlib.Core.Logic.{inl, inr}
-use mathlib.Core.Bool.{Bool, true, false, true≢false, ◌&&◌}
+use mathlib.Core.Bool.{Bool, ◌&&◌}
 use mathlib.Core.List.{List}
 use native.Mathlib.Numerals.{add-one}
 use native.Mathlib.Omega.{arith}
 use native.Mathlib.Decide.{dec_le}
 use lib.ListN.{length, get_or, set}
 use lib.Ieee.{Float, nan}
-use Rattle.tape.specs.declared.Tape.{Tape}
 use Rattle.banded.specs.Floats.{usable, float_at, ◌⊖◌, ◌⊗◌, ◌⊘◌}
 use Rattle.banded.specs.Elimination.{Matrix, factor, eliminated, usable_pivots}
-use Rattle.banded.specs.Rows.{Holds, Working, Factors, Kept, KeptRows, TapeRows, RowsWhen, Reduced}
+use Rattle.banded.specs.Rows.{Holds, Working, Factors, Kept, KeptRows, Reduced}
 use Rattle.banded.specs.declared.rows.Row.{Row}
 use Rattle.banded.proofs.Stores.{stored, below}
 use Rattle.banded.proofs.Taken.{follows_yes, follows_under, follows_past, taken-column, taken_entry, eliminated-first}
@@ -91,13 +90,3 @@ pub usable_more : (band : ℕ) (w : Matrix) (p : ℕ) (u g : Bool) (row : Row) �
     → (u && g) ≡ usable_pivots band w (p + 1)
 unfolding usable_pivots
 usable_more band w p u g row k e f = rw (e, f, k.pivots, add-one) refl
-
--- ---- The rows by which a tape is solved
-
-pub rows_when : (b : Bool) (t : Tape) (rows : List Row) → TapeRows t rows → RowsWhen b t rows
-rows_when true t rows h = h
-rows_when false t rows h = tt
-
-pub rows_used : (b : Bool) (t : Tape) (rows : List Row) → b ≡ true → RowsWhen b t rows → TapeRows t rows
-rows_used true t rows e h = h
-rows_used false t rows e h = absurd (true≢false (sym e))

@@ -9,17 +9,17 @@ use native.Mathlib.Decide.{dec_le}
 use lib.ListN.{length, set, get_or}
 use lib.Seq.{get_or-set_same, get_or-set_other}
 use lib.Ieee as Ieee
-use lib.Ieee.{Float, nan, inf, fin, binary64, of_bits, of_fields, odd, span, climb, size, units, div}
+use lib.Ieee.{Float, nan, inf, fin, binary64, of_bits, of_fields, odd, span, climb, size, units}
 use Rattle.banded.specs.Floats.{float_at, zero_float, usable, ◌⊖◌, ◌⊗◌}
 use Rattle.banded.specs.Rows.{Holds, Reduced}
 
--- 0.0, and 1.0 / 0.0
+-- 0.0, and the float beyond all finite ones
 pub zero_bits : of_bits binary64 0 ≡ zero_float
 unfolding of_bits of_fields odd span climb size units
 zero_bits = refl
 
-pub infinite_bits : div binary64 (of_bits binary64 4607182418800017408) (of_bits binary64 0) ≡ inf false
-unfolding div of_bits of_fields odd span climb size units
+pub infinite_bits : of_bits binary64 9218868437227405312 ≡ inf false
+unfolding of_bits of_fields odd span climb size units
 infinite_bits = refl
 
 pub usable-is : (x : Float) → Ieee.lt zero_float x ≡ true → Ieee.lt x (inf false) ≡ usable x

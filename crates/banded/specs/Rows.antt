@@ -1,12 +1,12 @@
 -- What the functions of the elimination tell each other: eliminated rows as the code holds them.
-use Rattle.std.specs.Prelude.{ℕ, ◌+◌, ◌<◌, ◌≤◌, ◌≡◌, ◌⊎◌, Bool, true, false, List, get_or, Float}
+use Rattle.std.specs.Prelude.{ℕ, ◌+◌, ◌<◌, ◌≤◌, ◌≡◌, ◌⊎◌, true, false, List, get_or, Float, Option, Some, None}
 use Rattle.tape.specs.declared.Tape.{Tape}
 use Rattle.problem.specs.Model.{problem_of}
 use Rattle.banded.specs.Floats.{float_at, ◌⊖◌, ◌⊗◌}
 use Rattle.banded.specs.Elimination.{Matrix, eliminated, factor, pivot, coupling}
 use Rattle.banded.specs.Correction.{solved}
 use Rattle.banded.specs.Weights.{weights}
-use Rattle.banded.specs.Step.{row_count, band_width}
+use Rattle.banded.specs.Step.{row_count, band_width, uses_band}
 use Rattle.banded.specs.declared.rows.Row.{Row}
 
 -- The first `count` places hold f 0, f 1, ..
@@ -35,10 +35,10 @@ pub record KeptRows (band : ℕ) (w : Matrix) (count : ℕ) (rows : List Row) : 
 abbrev pub TapeRows : Tape → List Row → Type 0
 TapeRows t rows = KeptRows (band_width (problem_of t)) (weights (problem_of t)) (row_count (problem_of t)) rows
 
--- where the tape is solved by them
-abbrev pub RowsWhen : Bool → Tape → List Row → Type 0
-RowsWhen true t rows = TapeRows t rows
-RowsWhen false t rows = Unit {0}
+-- They are there where the tape is solved by them.
+abbrev pub Factored : Tape → Option (List Row) → Type 0
+Factored t (Some rows) = (uses_band t ≡ true) × TapeRows t rows
+Factored t None = uses_band t ≡ false
 
 -- `new` is `old` less f times the couplings, in the `band` slots after slot q.
 pub record Reduced (band q : ℕ) (f : Float) (couplings old new : List Float) : Type 0 where

@@ -1,6 +1,6 @@
 -- Document 02, request 9: W, the residuals' coefficient matrix times 1/(2P) times its transpose. Rows and columns are residuals, by
 -- step and then state.
-use Rattle.std.specs.Prelude.{ℕ, zero, suc, ◌+◌, ◌*◌, ◌/◌, ◌%◌, cond, eqb, ℤ, pos, negsuc, ◌*ℤ◌, Float}
+use Rattle.std.specs.Prelude.{ℕ, zero, suc, ◌+◌, ◌/◌, ◌%◌, cond, eqb, ℤ, pos, negsuc, ◌*ℤ◌, Float}
 use Rattle.problem.specs.Model.{Problem}
 use Rattle.banded.specs.Floats.{float, zero_float, sum_from, ◌⊗◌, ◌⊘◌}
 use Rattle.banded.specs.Elimination.{Matrix}

@@ -5,58 +5,51 @@ pub mod rows;
 pub mod solve;
 mod weights;
 
-ghost use Rattle.std.specs.Prelude.{◌≡◌};
+ghost use Rattle.std.specs.Prelude.{ℕ, ◌≤◌, ◌≡◌};
 ghost use Rattle.tape.specs.Legal.{Legal};
-ghost use Rattle.problem.specs.Model.{problem_of};
-ghost use Rattle.banded.specs.Step.{band_usable, uses_band};
-ghost use Rattle.banded.specs.Rows.{TapeRows, RowsWhen};
+ghost use Rattle.banded.specs.Elimination.{Matrix, usable_pivots};
+ghost use Rattle.banded.specs.Rows.{KeptRows, TapeRows, Factored};
 
 use crate::rows::{Row, eliminated_row, is_usable, no_rows, row_count};
 use crate::weights::weights_row;
 use tape::Tape;
 
-// A tape's eliminated rows, and whether all their pivots are finite and above 0.
-#[derive(Clone, Copy)]
-pub struct Eliminated {
-    pub usable: bool,
-    pub rows: [Row; 72],
-}
-
-// The elimination, which does not depend on the residuals.
-pub fn eliminate(t: Tape) -> Eliminated
+// A tape's eliminated rows. They do not depend on the residuals.
+pub fn eliminate(t: Tape) -> [Row; 72]
     requires { Legal t }
-    ensures { (result.usable ≡ band_usable (problem_of t)) × TapeRows t result.rows }
+    ensures { TapeRows t result }
 {
     let band = 2 * t.n - 1;
-    let count = row_count(t.n, t.horizon);
     let mut rows = no_rows();
-    let mut usable = true;
-    let mut p: usize = 0;
-    while p < count {
+    for p in 0..row_count(t.n, t.horizon) {
         let x = weights_row(t, p, band);
-        let row = eliminated_row(rows, x, p, band);
-        rows[p] = row;
-        let good = is_usable(row.pivot);
-        usable = usable & good;
-        p += 1;
+        rows[p] = eliminated_row(&rows, x, p, band);
     }
-    Eliminated {
-        usable: usable,
-        rows: rows,
-    }
+    rows
 }
 
-// The eliminated rows where the tape is solved by them; usable says so.
-pub fn factored_of(t: Tape) -> Eliminated
+// Whether all pivots of the first rows are finite and above 0.
+pub fn are_usable(rows: &[Row; 72], count: usize) -> bool
+    requires { count ≤ 72 }
+    ensures { (band : ℕ) (w : Matrix) → KeptRows band w count rows.now → result ≡ usable_pivots band w count }
+{
+    let mut usable = true;
+    for p in 0..count {
+        usable &= is_usable(rows[p].pivot);
+    }
+    usable
+}
+
+// The eliminated rows where the tape is solved by them.
+pub fn factored_of(t: Tape) -> Option<[Row; 72]>
     requires { Legal t }
-    ensures { (result.usable ≡ uses_band t) × RowsWhen result.usable t result.rows }
+    ensures { Factored t result }
 {
     if t.banded {
-        return eliminate(t);
+        let rows = eliminate(t);
+        if are_usable(&rows, row_count(t.n, t.horizon)) {
+            return Some(rows);
+        }
     }
-    let rows = no_rows();
-    Eliminated {
-        usable: false,
-        rows: rows,
-    }
+    None
 }

@@ -36,33 +36,25 @@ pub fn row_count(n: usize, horizon: usize) -> usize
 pub fn first_before(a: usize, band: usize) -> usize
     ensures { result ≡ a - band }
 {
-    if a < band {
-        return 0;
-    }
-    a - band
+    a.saturating_sub(band)
 }
 
 // Whether a pivot is finite and above 0.
 pub fn is_usable(x: f64) -> bool
     ensures { result ≡ usable x }
 {
-    if 0.0 < x {
-        return x < 1.0 / 0.0;
-    }
-    false
+    0.0 < x && x < f64::INFINITY
 }
 
 // x less f times the couplings, in the slots after slot q.
-fn reduced(x: [f64; 23], q: usize, f: f64, couplings: [f64; 11], band: usize) -> [f64; 23]
+fn reduced(x: [f64; 23], q: usize, f: f64, couplings: &[f64; 11], band: usize) -> [f64; 23]
     requires { (q < 11) × (band ≤ 11) }
-    ensures { Reduced band q f couplings x result }
+    ensures { Reduced band q f couplings.now x result }
 {
     let mut next = x;
-    let mut j: usize = 0;
-    while j < band {
+    for j in 0..band {
         let s = q + 1 + j;
         next[s] = x[s] - f * couplings[j];
-        j += 1;
     }
     next
 }
@@ -72,12 +64,7 @@ fn kept(x: [f64; 23], factors: [f64; 11]) -> Row
     ensures { (band : ℕ) (w : Matrix) (a : ℕ) → band ≤ 11 → Working band w a a x → Factors band w a a factors → Kept band w a result }
 {
     let mut couplings = [0.0f64; 11];
-    let mut j: usize = 0;
-    while j < 11 {
-        let s = 12 + j;
-        couplings[j] = x[s];
-        j += 1;
-    }
+    couplings.copy_from_slice(&x[12..]);
     Row {
         pivot: x[11],
         couplings: couplings,
@@ -86,22 +73,19 @@ fn kept(x: [f64; 23], factors: [f64; 11]) -> Row
 }
 
 // Row a, from the rows before it and its entries in W: slot s of x is the entry in column a + s − 11.
-pub fn eliminated_row(rows: [Row; 72], x: [f64; 23], a: usize, band: usize) -> Row
+pub fn eliminated_row(rows: &[Row; 72], x: [f64; 23], a: usize, band: usize) -> Row
     requires { (a < 72) × (band ≤ 11) }
-    ensures { (w : Matrix) → KeptRows band w a rows → Working band w 0 a x → Kept band w a result }
+    ensures { (w : Matrix) → KeptRows band w a rows.now → Working band w 0 a x → Kept band w a result }
 {
     let mut y = x;
     let mut factors = [0.0f64; 11];
-    let mut p = first_before(a, band);
-    let mut q = p + 11 - a;
-    while p < a {
-        let row = rows[p];
+    let first = first_before(a, band);
+    for p in first..a {
+        let q = p + 11 - a;
+        let row = &rows[p];
         let f = y[q] / row.pivot;
         factors[q] = f;
-        let c = row.couplings;
-        y = reduced(y, q, f, c, band);
-        p += 1;
-        q += 1;
+        y = reduced(y, q, f, &row.couplings, band);
     }
     kept(y, factors)
 }

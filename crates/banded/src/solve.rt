@@ -1,5 +1,5 @@
 // d of right sides e, from eliminated rows.
-ghost use Rattle.std.specs.Prelude.{ℕ, ◌+◌, ◌≤◌, ◌<◌, min, ◌≡◌, Float};
+ghost use Rattle.std.specs.Prelude.{ℕ, ◌+◌, ◌≤◌, ◌<◌, ◌≡◌, Float};
 ghost use Rattle.banded.specs.Floats.{float_at, sum_from, zero_float, ◌⊗◌};
 ghost use Rattle.banded.specs.Elimination.{Matrix, sides, side};
 ghost use Rattle.banded.specs.Correction.{solved};
@@ -13,28 +13,22 @@ fn side_of(factors: &[f64; 11], s: &[f64; 72], a: usize, band: usize, e: f64) ->
     ensures { (w : Matrix) (right : ℕ → Float) → Factors band w a a factors.now → Holds a (side band w right) s.now → e ≡ right a → result ≡ sides band w right a a }
 {
     let mut r = e;
-    let mut p = first_before(a, band);
-    let mut q = p + 11 - a;
-    while p < a {
-        r = r - factors[q] * s[p];
-        p += 1;
-        q += 1;
+    let first = first_before(a, band);
+    for p in first..a {
+        let q = p + 11 - a;
+        r -= factors[q] * s[p];
     }
     r
 }
 
 // The right sides of all rows, each as it is when its row is taken.
-fn sides_of(rows: [Row; 72], e: &[f64; 72], count: usize, band: usize) -> [f64; 72]
+fn sides_of(rows: &[Row; 72], e: &[f64; 72], count: usize, band: usize) -> [f64; 72]
     requires { (count ≤ 72) × (band ≤ 11) }
-    ensures { (w : Matrix) (right : ℕ → Float) → KeptRows band w count rows → Holds count right e.now → Holds count (side band w right) result }
+    ensures { (w : Matrix) (right : ℕ → Float) → KeptRows band w count rows.now → Holds count right e.now → Holds count (side band w right) result }
 {
     let mut s = [0.0f64; 72];
-    let mut a: usize = 0;
-    while a < count {
-        let row = rows[a];
-        let f = row.factors;
-        s[a] = side_of(&f, &s, a, band, e[a]);
-        a += 1;
+    for a in 0..count {
+        s[a] = side_of(&rows[a].factors, &s, a, band, e[a]);
     }
     s
 }
@@ -45,47 +39,31 @@ fn sum_after(couplings: &[f64; 11], d: &[f64; 72], p: usize, count: usize) -> f6
     ensures { result ≡ sum_from zero_float count (λ j. float_at couplings.now j ⊗ float_at d.now (p + 1 + j)) }
 {
     let mut sum = 0.0f64;
-    let mut j: usize = 0;
-    while j < count {
-        sum = sum + couplings[j] * d[p + 1 + j];
-        j += 1;
+    for j in 0..count {
+        sum += couplings[j] * d[p + 1 + j];
     }
     sum
 }
 
-// The smaller of two counts.
-fn smaller(a: usize, b: usize) -> usize
-    ensures { result ≡ min a b }
-{
-    if a < b {
-        return a;
-    }
-    b
-}
-
 // d of all rows, from the last row up; t rows are solved.
-fn solved_up(rows: [Row; 72], s: &[f64; 72], count: usize, band: usize) -> [f64; 72]
+fn solved_up(rows: &[Row; 72], s: &[f64; 72], count: usize, band: usize) -> [f64; 72]
     requires { (count ≤ 72) × (band ≤ 11) }
-    ensures { (w : Matrix) (right : ℕ → Float) → KeptRows band w count rows → Holds count (side band w right) s.now → Solved count band w right count result }
+    ensures { (w : Matrix) (right : ℕ → Float) → KeptRows band w count rows.now → Holds count (side band w right) s.now → Solved count band w right count result }
 {
     let mut d = [0.0f64; 72];
-    let mut t: usize = 0;
-    while t < count {
+    for t in 0..count {
         let p = count - (t + 1);
-        let row = rows[p];
-        let c = row.couplings;
-        let near = smaller(band, t);
-        let sum = sum_after(&c, &d, p, near);
+        let row = &rows[p];
+        let sum = sum_after(&row.couplings, &d, p, band.min(t));
         d[p] = (s[p] - sum) / row.pivot;
-        t += 1;
     }
     d
 }
 
 // d of all rows, from the right sides e of W × d = e.
-pub fn correction_of(rows: [Row; 72], e: &[f64; 72], count: usize, band: usize) -> [f64; 72]
+pub fn correction_of(rows: &[Row; 72], e: &[f64; 72], count: usize, band: usize) -> [f64; 72]
     requires { (count ≤ 72) × (band ≤ 11) }
-    ensures { (w : Matrix) (right : ℕ → Float) → KeptRows band w count rows → Holds count right e.now → Holds count (solved count band w right count) result }
+    ensures { (w : Matrix) (right : ℕ → Float) → KeptRows band w count rows.now → Holds count right e.now → Holds count (solved count band w right count) result }
 {
     let s = sides_of(rows, e, count, band);
     solved_up(rows, &s, count, band)

@@ -66,12 +66,10 @@ fn with_inputs<'a>(
     ensures { result ≡ sum_from sum m (input_share (input_matrix b.now) (λ c. pos 4096 *ℤ at weight.now (n + c)) k i l j s) }
 {
     let mut total = sum;
-    let mut c: usize = 0;
-    while c < m {
+    for c in 0..m {
         let x = input_coefficient(b, k, i, s, c);
         let y = input_coefficient(b, l, j, s, c);
-        total = total + share_of(x, y, weight[n + c]);
-        c += 1;
+        total += share_of(x, y, weight[n + c]);
     }
     total
 }
@@ -92,12 +90,10 @@ fn with_states<'a>(
     ensures { result ≡ sum_from sum n (state_share (state_matrix a.now) (λ c. pos 4096 *ℤ at weight.now c) k i l j s) }
 {
     let mut total = sum;
-    let mut c: usize = 0;
-    while c < n {
+    for c in 0..n {
         let x = state_coefficient(a, k, i, s, c);
         let y = state_coefficient(a, l, j, s, c);
-        total = total + share_of(x, y, weight[c]);
-        c += 1;
+        total += share_of(x, y, weight[c]);
     }
     total
 }
@@ -115,11 +111,9 @@ fn weight_of(t: Tape, row: usize, column: usize) -> f64
     let l = column / n;
     let j = column % n;
     let mut sum = 0.0f64;
-    let mut s: usize = 0;
-    while s < horizon {
+    for s in 0..horizon {
         let more = with_inputs(sum, &t.b, &t.weight, n, m, k, i, l, j, s);
         sum = with_states(more, &t.a, &t.weight, n, k, i, l, j, s);
-        s += 1;
     }
     sum
 }
@@ -130,12 +124,9 @@ pub fn weights_row(t: Tape, row: usize, band: usize) -> [f64; 23]
     ensures { Working band (weights (problem_of t)) 0 row result }
 {
     let mut x = [0.0f64; 23];
-    let mut c = first_before(row, band);
-    let mut s = c + 11 - row;
-    while c <= row + band {
-        x[s] = weight_of(t, row, c);
-        c += 1;
-        s += 1;
+    let first = first_before(row, band);
+    for c in first..row + band + 1 {
+        x[c + 11 - row] = weight_of(t, row, c);
     }
     x
 }

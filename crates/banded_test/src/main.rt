@@ -5,42 +5,25 @@
 use ascent::multiplier::next_multiplier;
 use banded::rows::is_usable;
 use cases::floats::{bits, float_at};
-use cases::{Case, refused};
+use cases::{Case, each_case, refused};
 use commands::range::{LEAST_MULTIPLIER, MOST_MULTIPLIER};
 use corrections::{Corrected, banded_correction};
 use integer::number::limit;
 use std::io;
-use std::io::Read;
 
 fn main(rt: HostRuntime) -> io::Result<()> {
-    let mut text = Vec::new(rt.alloc());
-    rt.reader().read_to_end(&mut text)?;
-    run(&rt, &text)
-}
-
-fn run(rt: &impl Print, text: &[u8]) -> io::Result<()> {
-    let mut case = Case::new();
-    for c in text {
-        if *c == b'\n' {
-            show(rt, case.closed())?;
-            case = Case::new();
-        } else {
-            case = case.next(*c);
-        }
-    }
-    Ok(())
+    each_case(&rt, |case| show(&rt, case))
 }
 
 fn show(rt: &impl Print, case: Case) -> io::Result<()> {
-    let kind = case.kind;
     let bytes = case.tape;
     let digits = case.digits / 2;
     let numbers = case.first;
     let counts = case.counts;
-    match kind {
-        b'v' => show_pivot(rt, float_at(&bytes, 0)),
-        b'x' => show_next(rt, float_at(&bytes, 0), numbers[0]),
-        b'i' => show_correction(rt, &bytes, digits, &numbers, counts[0]),
+    match case.word() {
+        b"pivot" => show_pivot(rt, float_at(&bytes, 0)),
+        b"next" => show_next(rt, float_at(&bytes, 0), numbers[0]),
+        b"correction" => show_correction(rt, &bytes, digits, &numbers, counts[0]),
         _ => Ok(()),
     }
 }
@@ -123,11 +106,10 @@ fn show_answer(
     pivots: &mut [f64],
     correction: &mut [f64],
 ) -> io::Result<()> {
-    let answer = banded_correction(tape, residuals, pivots, correction);
-    match answer {
-        Corrected::Written => show_slices(rt, b"correction 1 /", pivots, correction)?,
-        Corrected::Unused => show_slices(rt, b"correction 0 /", pivots, correction)?,
-        Corrected::Refused(why) => refused(rt, why)?,
+    match banded_correction(tape, residuals, pivots, correction) {
+        Ok(Corrected::Written) => show_slices(rt, b"correction 1 /", pivots, correction)?,
+        Ok(Corrected::Unused) => show_slices(rt, b"correction 0 /", pivots, correction)?,
+        Err(why) => refused(rt, why)?,
     }
     print::end(rt)
 }

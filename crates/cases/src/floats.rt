@@ -1,5 +1,4 @@
 // Floats by the 16 hexadecimal digits of their bits.
-use integer::bytes::u8_at;
 use std::io;
 
 // Writes a float's bits as a number; not a number has none.
@@ -13,21 +12,10 @@ pub fn bits(rt: &impl Print, x: f64) -> io::Result<()> {
 
 // The float whose bits stand in 8 bytes, the high byte first; 0 where there are not so many.
 pub fn float_at(bytes: &[u8], at: usize) -> f64 {
-    if bytes.len() < 8 {
-        return 0.0;
-    }
-    if bytes.len() - 8 < at {
-        return 0.0;
-    }
-    let mut bits: u64 = 0;
-    let mut i: usize = 0;
-    while i < 8 {
-        if bits < 72057594037927936 {
-            bits = bits * 256 + u8_at(bytes, at + i) as u64;
-        }
-        i += 1;
-    }
-    float_of(bits)
+    bytes
+        .get(at..)
+        .and_then(|rest| rest.first_chunk::<8>())
+        .map_or(0.0, |bits| float_of(u64::from_be_bytes(*bits)))
 }
 
 // Every NaN is one: it has no bits to be made from.

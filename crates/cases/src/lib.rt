@@ -7,16 +7,16 @@
 
 pub mod floats;
 
-use integer::number::size;
 use std::io;
+use std::io::Read;
 use tape::refusal::{Carried, Refusal, carries, number};
 
-// A case as far as it has been read, character by character. The kind is the last such letter of the
-// line's word, 0 before it; words of two programs may share theirs, as `read` and `ranges` do. Digits of
-// a tape, or of floats, are 0 to 9 and A to F; numbers are decimal.
+// A case as far as it has been read, character by character. Small letters are the line's word, of which
+// the first 10 are kept. Digits of a tape, or of floats, are 0 to 9 and A to F; numbers are decimal.
 #[derive(Clone, Copy)]
 pub struct Case {
-    pub kind: u8,
+    letters: usize,
+    text: [u8; 10],
     pub comment: bool,
     pub field: usize,
     pub digits: usize,
@@ -35,7 +35,8 @@ impl Case {
         let counts = [0usize; 2];
         let none = [0i32; 160];
         Case {
-            kind: 0,
+            letters: 0,
+            text: [0u8; 10],
             comment: false,
             field: 0,
             digits: 0,
@@ -60,10 +61,7 @@ impl Case {
                 case.comment = true;
                 case
             }
-            b'r' | b'p' | b'b' | b'j' | b'h' | b'v' | b'y' | b'm' | b'c' | b'i' | b'x' => {
-                case.kind = c;
-                case
-            }
+            b'a'..=b'z' => case.with_letter(c),
             b'/' => case.closed().moved(),
             b' ' => case.closed(),
             b'-' => {
@@ -74,6 +72,20 @@ impl Case {
             b'A'..=b'F' => case.digit(c - b'A' + 10),
             _ => case,
         }
+    }
+
+    // The line's word.
+    pub fn word(&self) -> &[u8] {
+        self.text.get(..self.letters).unwrap_or_default()
+    }
+
+    fn with_letter(mut self, c: u8) -> Case {
+        let letters = self.letters;
+        if letters < 10 {
+            self.text[letters] = c;
+            self.letters = letters + 1;
+        }
+        self
     }
 
     fn moved(mut self) -> Case {
@@ -139,38 +151,33 @@ impl Case {
     }
 }
 
-// A figure with its sign; 0 where it is beyond an i32.
-fn value(figure: u64, negative: bool) -> i32 {
-    if 2147483648 < figure {
-        return 0;
+// Shows every case on standard input, in order.
+pub fn each_case<R: Input + Alloc, F: Fn(Case) -> io::Result<()>>(rt: &R, show: F) -> io::Result<()>
+    requires { F.IsAlwaysCallable show }
+{
+    let mut text = Vec::new(rt.alloc());
+    rt.reader().read_to_end(&mut text)?;
+    let mut case = Case::new();
+    for c in &text {
+        if *c == b'\n' {
+            show(case.closed())?;
+            case = Case::new();
+        } else {
+            case = case.next(*c);
+        }
     }
-    let x = figure as i64;
-    if negative {
-        return narrow(-x);
-    }
-    narrow(x)
+    Ok(())
 }
 
-fn narrow(x: i64) -> i32 {
-    if x < -2147483648 {
-        return 0;
-    }
-    if 2147483647 < x {
-        return 0;
-    }
-    x as i32
+// A figure with its sign; 0 where it is beyond an i32.
+fn value(figure: u64, negative: bool) -> i32 {
+    let size = i64::try_from(figure).unwrap_or(0);
+    i32::try_from(if negative { -size } else { size }).unwrap_or(0)
 }
 
 // A number of a list as a size; 0 past the end.
 pub fn size_at(list: &[i32], at: usize) -> usize {
-    if list.len() <= at {
-        return 0;
-    }
-    wide(list[at])
-}
-
-fn wide(x: i32) -> usize {
-    size(x as i64) as usize
+    list.get(at).map_or(0, |x| x.unsigned_abs() as usize)
 }
 
 // Writes a refusal: its number, and what it carries, or `-`.

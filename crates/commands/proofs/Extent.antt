@@ -17,7 +17,7 @@ use Rattle.commands.specs.declared.Entry.TheVariants.{State, Input, Drift, Colum
 use Rattle.commands.specs.Format.{whole, pair_command, size_command, drift_command, column_command, start_command, rounds_command, decoded}
 use Rattle.commands.specs.Format.{size_bytes, bytes_of, place_of}
 use Rattle.commands.specs.Marks.{drift_place, column_place, start_place, rounds_place, reference_place, place_count}
-use Rattle.commands.proofs.Tests.{Inside}
+use Rattle.commands.specs.Room.{Inside}
 
 -- ---- A command's place and its bytes
 

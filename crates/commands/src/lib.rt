@@ -6,9 +6,9 @@ pub mod mark;
 pub mod range;
 
 ghost use Rattle.std.specs.Prelude.{◌+◌, ◌<◌, ◌≡◌, false, length};
-ghost use Rattle.commands.specs.Format.{size_command, state_command, input_command, drift_command, column_command, reference_command, start_command, rounds_command, decoded, wrong_size, wrong_column, beyond, wrong, place_of, bytes_of};
+ghost use Rattle.commands.specs.Format.{size_command, drift_command, column_command, start_command, rounds_command, decoded, wrong_size, wrong_column, beyond, wrong, place_of, bytes_of};
 ghost use Rattle.commands.specs.Marks.{place_count};
-ghost use Rattle.commands.specs.Room.{Room, SmallSizes};
+ghost use Rattle.commands.specs.Room.{Room, SmallSizes, Inside, PairBy};
 
 use crate::mark::{
     COLUMN_PLACE, DRIFT_PLACE, INPUT_PLACE, REFERENCE_PLACE, ROUNDS_PLACE, START_PLACE, STATE_PLACE,
@@ -17,7 +17,7 @@ use crate::range::{
     LEAST_DRIFT, LEAST_ENTRY, LEAST_NUMBER, MOST_DRIFT, MOST_ENTRY, MOST_NUMBER, MOST_ROUNDS,
     MOST_WEIGHT,
 };
-use integer::bytes::{i16_at, i32_at, u8_at, u16_at, u32_at};
+use integer::bytes::{signed_at, unsigned_at};
 use integer::number::is_outside;
 
 // What a command gives: the number or numbers of one place. Of the rounds, first whether it is command
@@ -33,7 +33,8 @@ pub enum Entry {
     Rounds(bool, i64, usize, i64),
 }
 
-// A command with its operands, or what stands in their way.
+// A command with its operands, or what stands in their way. No `Result`: `Unknown` and `Cut` are arms
+// of the reader's one `match` as the others are, and an error enum for two of them is no plainer.
 #[derive(Clone, Copy)]
 pub enum Command {
     Unknown,
@@ -47,14 +48,13 @@ pub fn decode(s: &[u8], at: usize) -> Command
     requires { at < length s.now }
     ensures { (result ≡ decoded s.now at) × Room at (length s.now) result }
 {
-    let byte = s[at];
-    match byte {
+    match s[at] {
         0x10 => size(s, at),
-        0x20 => state_entry(s, at),
-        0x21 => input_entry(s, at),
+        0x20 => pair(Entry::State, s, at),
+        0x21 => pair(Entry::Input, s, at),
         0x22 => drift(s, at),
         0x30 => column(s, at),
-        0x31 => reference(s, at),
+        0x31 => pair(Entry::Reference, s, at),
         0x40 => start(s, at),
         0x50 => rounds(false, s, at),
         0x51 => rounds(true, s, at),
@@ -65,91 +65,83 @@ pub fn decode(s: &[u8], at: usize) -> Command
 
 fn size(s: &[u8], at: usize) -> Command
     requires { at < length s.now }
-    ensures { (result ≡ size_command s.now at) × Room at (length s.now) result }
+    ensures { result ≡ size_command s.now at }
 {
     if s.len() - at <= 3 {
         return Command::Cut;
     }
-    Command::Size(u8_at(s, at + 1), u8_at(s, at + 2), u8_at(s, at + 3))
+    Command::Size(
+        unsigned_at::<1>(s, at + 1),
+        unsigned_at::<1>(s, at + 2),
+        unsigned_at::<1>(s, at + 3),
+    )
 }
 
-fn state_entry(s: &[u8], at: usize) -> Command
-    requires { at < length s.now }
-    ensures { (result ≡ state_command s.now at) × Room at (length s.now) result }
+// Of A, of B or of a curve: two indexes and a number.
+fn pair<F: Fn(usize, usize, i64) -> Entry>(entry: F, s: &[u8], at: usize) -> Command
+    requires callable { F.IsAlwaysCallable entry }
+    requires here { at < length s.now }
+    ensures { PairBy (F.post entry) s.now at result }
 {
     if s.len() - at <= 4 {
         return Command::Cut;
     }
-    Command::Give(Entry::State(u8_at(s, at + 1), u8_at(s, at + 2), i16_at(s, at + 3)))
-}
-
-fn input_entry(s: &[u8], at: usize) -> Command
-    requires { at < length s.now }
-    ensures { (result ≡ input_command s.now at) × Room at (length s.now) result }
-{
-    if s.len() - at <= 4 {
-        return Command::Cut;
-    }
-    Command::Give(Entry::Input(u8_at(s, at + 1), u8_at(s, at + 2), i16_at(s, at + 3)))
+    Command::Give(entry(
+        unsigned_at::<1>(s, at + 1),
+        unsigned_at::<1>(s, at + 2),
+        signed_at::<2>(s, at + 3),
+    ))
 }
 
 fn drift(s: &[u8], at: usize) -> Command
     requires { at < length s.now }
-    ensures { (result ≡ drift_command s.now at) × Room at (length s.now) result }
+    ensures { result ≡ drift_command s.now at }
 {
     if s.len() - at <= 5 {
         return Command::Cut;
     }
-    Command::Give(Entry::Drift(u8_at(s, at + 1), i32_at(s, at + 2)))
+    Command::Give(Entry::Drift(unsigned_at::<1>(s, at + 1), signed_at::<4>(s, at + 2)))
 }
 
 fn column(s: &[u8], at: usize) -> Command
     requires { at < length s.now }
-    ensures { (result ≡ column_command s.now at) × Room at (length s.now) result }
+    ensures { result ≡ column_command s.now at }
 {
     if s.len() - at <= 8 {
         return Command::Cut;
     }
-    let weight = u8_at(s, at + 8) as i64;
     Command::Give(Entry::Column(
-        u8_at(s, at + 1),
-        i16_at(s, at + 2),
-        i16_at(s, at + 4),
-        i16_at(s, at + 6),
-        weight,
+        unsigned_at::<1>(s, at + 1),
+        signed_at::<2>(s, at + 2),
+        signed_at::<2>(s, at + 4),
+        signed_at::<2>(s, at + 6),
+        unsigned_at::<1>(s, at + 8) as i64,
     ))
-}
-
-fn reference(s: &[u8], at: usize) -> Command
-    requires { at < length s.now }
-    ensures { (result ≡ reference_command s.now at) × Room at (length s.now) result }
-{
-    if s.len() - at <= 4 {
-        return Command::Cut;
-    }
-    Command::Give(Entry::Reference(u8_at(s, at + 1), u8_at(s, at + 2), i16_at(s, at + 3)))
 }
 
 fn start(s: &[u8], at: usize) -> Command
     requires { at < length s.now }
-    ensures { (result ≡ start_command s.now at) × Room at (length s.now) result }
+    ensures { result ≡ start_command s.now at }
 {
     if s.len() - at <= 3 {
         return Command::Cut;
     }
-    Command::Give(Entry::Start(u8_at(s, at + 1), i16_at(s, at + 2)))
+    Command::Give(Entry::Start(unsigned_at::<1>(s, at + 1), signed_at::<2>(s, at + 2)))
 }
 
 fn rounds(banded: bool, s: &[u8], at: usize) -> Command
     requires { at < length s.now }
-    ensures { (result ≡ rounds_command banded s.now at) × Room at (length s.now) result }
+    ensures { result ≡ rounds_command banded s.now at }
 {
     if s.len() - at <= 8 {
         return Command::Cut;
     }
-    let gain = u16_at(s, at + 1) as i64;
-    let wanted = u32_at(s, at + 5) as i64;
-    Command::Give(Entry::Rounds(banded, gain, u16_at(s, at + 3), wanted))
+    Command::Give(Entry::Rounds(
+        banded,
+        unsigned_at::<2>(s, at + 1) as i64,
+        unsigned_at::<2>(s, at + 3),
+        unsigned_at::<4>(s, at + 5) as i64,
+    ))
 }
 
 // Test 5 of command 10.
@@ -203,8 +195,8 @@ pub fn is_wrong(entry: Entry) -> bool
 }
 
 // Test 6 looks at the mark of the entry's place.
-pub fn place_of(entry: Entry, n: usize, m: usize, horizon: usize) -> usize
-    requires { SmallSizes n m horizon × (beyond n m horizon entry ≡ false) }
+pub fn place_of(entry: Entry) -> usize
+    requires { Inside entry }
     ensures { (result ≡ place_of entry) × (result < place_count) }
 {
     match entry {

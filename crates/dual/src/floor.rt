@@ -11,19 +11,14 @@ use crate::pieces::pieces;
 use crate::slopes::{adjoint_at, slopes};
 use integer::number::size;
 use primal::dot::dot;
+use primal::total::total;
 
 // The sum of y(k,i) w(i) over all k and i.
 fn drifts(drift: &[i64; 6], y: &[i64; 72], horizon: usize) -> i64
     requires { (horizon ≤ 12) × Bounded most_drift drift.now × Bounded most_multiplier y.now }
     ensures { result ≡ sum horizon (λ k. sum 6 (λ i. padded y.now k i *ℤ at drift.now i)) }
 {
-    let mut total: i64 = 0;
-    let mut k: usize = 0;
-    while k < horizon {
-        total += dot(y, 6 * k, drift, 0, 1, 6);
-        k += 1;
-    }
-    total
+    total(horizon, |k| dot(y, 6 * k, drift, 0, 1, 6))
 }
 
 // The sum of y(0,i) A(i,j) x(0,j) over i and j, over i first.
@@ -32,10 +27,8 @@ fn started<'a>(a: &'a [i64; 36], start: &'a [i64; 6], y: &'a [i64; 72]) -> i64
     ensures { result ≡ sum 6 (λ j. adjoint 6 (state_matrix a.now) (padded y.now) 0 j *ℤ at start.now j) }
 {
     let mut total: i64 = 0;
-    let mut j: usize = 0;
-    while j < 6 {
+    for j in 0..6 {
         total += adjoint_at(a, y, 0, j) * start[j];
-        j += 1;
     }
     total
 }
@@ -45,13 +38,7 @@ fn sizes_of(y: &[i64; 72], count: usize) -> i64
     requires { (count ≤ 72) × Bounded most_multiplier y.now }
     ensures { result ≡ sum count (λ p. pos (nat_abs (at y.now p))) }
 {
-    let mut total: i64 = 0;
-    let mut p: usize = 0;
-    while p < count {
-        total += size(y[p]) as i64;
-        p += 1;
-    }
-    total
+    total(count, |p| size(y[p]) as i64)
 }
 
 // What rounding takes off the floor: 2048 times the sum of |y|.

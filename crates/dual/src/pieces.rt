@@ -10,6 +10,7 @@ ghost use Rattle.dual.specs.Slopes.{most_slope};
 
 use integer::number::square_quotient;
 use primal::cost::cost_of;
+use primal::total::total;
 
 // 2P (v - r) + s.
 pub fn tilt_at(p: i64, v: i64, r: i64, s: i64) -> i64
@@ -67,12 +68,8 @@ pub fn pieces<'a>(
     requires { (horizon ≤ 12) × Tables penalty.now low.now high.now reference.now × Bounded most_slope s.now }
     ensures { result ≡ sum (10 * horizon) (λ p. piece (term_at penalty.now low.now high.now reference.now p) (at s.now p)) }
 {
-    let count = 10 * horizon;
-    let mut total: i64 = 0;
-    let mut p: usize = 0;
-    while p < count {
-        total += piece_of(penalty[p], low[p], high[p], reference[p], s[p]);
-        p += 1;
-    }
-    total
+    total(
+        10 * horizon,
+        |p| piece_of(penalty[p], low[p], high[p], reference[p], s[p]),
+    )
 }

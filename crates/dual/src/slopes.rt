@@ -20,10 +20,8 @@ fn input_slopes(s: &mut [i64; 120], b: &[i64; 24], y: &[i64; 72], k: usize)
     requires { (k < 12) × (length s.old ≡ 120) × Bounded most_entry b.now × Bounded most_multiplier y.now }
     ensures { Stretch (10 * k) 4 (input_slope 6 (input_matrix b.now) (padded y.now) k) s.old s.new }
 {
-    let mut j: usize = 0;
-    while j < 4 {
+    for j in 0..4 {
         s[10 * k + j] = input_slope_at(b, y, k, j);
-        j += 1;
     }
 }
 
@@ -58,10 +56,8 @@ fn state_slopes(s: &mut [i64; 120], a: &[i64; 36], y: &[i64; 72], k: usize, hori
     requires { (k < horizon) × (horizon ≤ 12) × (length s.old ≡ 120) × Bounded most_entry a.now × Bounded most_multiplier y.now }
     ensures { Stretch (10 * k + 4) 6 (state_slope 6 horizon (state_matrix a.now) (padded y.now) k) s.old s.new }
 {
-    let mut i: usize = 0;
-    while i < 6 {
+    for i in 0..6 {
         s[10 * k + 4 + i] = state_slope_at(a, y, k, i, horizon);
-        i += 1;
     }
 }
 
@@ -77,11 +73,9 @@ pub fn slopes<'a>(
         (state_slope 6 horizon (state_matrix a.now) (padded y.now))) result }
 {
     let mut s = [0i64; 120];
-    let mut k: usize = 0;
-    while k < horizon {
+    for k in 0..horizon {
         input_slopes(&mut s, b, y, k);
         state_slopes(&mut s, a, y, k, horizon);
-        k += 1;
     }
     s
 }

@@ -8,6 +8,7 @@ use lib.IntN.{ℤ, pos, neg_ℤ, nat_abs, ◌-ℤ◌, ◌*ℤ◌}
 use lib.Ieee.{Float, binary64, fits}
 use lib.Ieee.Bits.{is_true}
 use borrow.Author.Tests.{ltb-true, ltb-false, eqb-true, eqb-false, lt-ltb, le-ltb, eq-eqb, ne_eqb}
+use Rattle.std.specs.Prelude.{Result, Ok, Err}
 use Rattle.integer.specs.Order.{◌≼◌, ◌≺◌}
 use Rattle.integer.proofs.Parts.{plus, minus, negated, times}
 use Rattle.integer.proofs.Ring.{ring, K, ⊝, ◌⊗◌, ◌≐◌}
@@ -20,7 +21,9 @@ use Rattle.float.proofs.Values.{denominator_pos, from_one}
 use Rattle.float.proofs.Rounded.{nearest-from, nearest-below, nearest_by, nearest-is}
 use Rattle.import.specs.Entries.{scaled, number, rest, imported, Rounds, Is, UnderHalf, Left, Exact}
 use Rattle.import.specs.declared.Entry.{Entry}
-use Rattle.import.specs.declared.Entry.TheVariants.{Whole, Near, NotFinite, TooLarge}
+use Rattle.import.specs.declared.Entry.TheVariants.{Whole, Near}
+use Rattle.import.specs.declared.ImportError.{ImportError}
+use Rattle.import.specs.declared.ImportError.TheVariants.{NotFinite, TooLarge}
 use Rattle.import.proofs.Bounds.{is-nearest}
 use Rattle.import.proofs.Product.{leftover_is, leftover_value}
 
@@ -86,9 +89,9 @@ module _ (a : Float) (f : Finite a) where
         record { broken = broken; exactly = v; range = under_half (scaled a) (denominator a) (number a) _ (denominator_pos a) (is-nearest a f) v }
 
 -- P of what `imported` gives, from P of each of its cases and what the tests say there
-pub by_case : (P : Entry → Type 0) (a : Float) → (finite a ≡ false → P NotFinite) → (Finite a → 16384 < nat_abs (number a) → P TooLarge)
-    → (Finite a → nat_abs (number a) ≤ 16384 → nat_abs (rest a) ≡ 0 → P (Whole (number a)))
-    → (Finite a → nat_abs (number a) ≤ 16384 → (nat_abs (rest a) ≡ 0 → ⊥) → P (Near (number a) (float_of (rest a) (denominator a)))) → P (imported a)
+pub by_case : (P : Result Entry ImportError → Type 0) (a : Float) → (finite a ≡ false → P (Err NotFinite)) → (Finite a → 16384 < nat_abs (number a) → P (Err TooLarge))
+    → (Finite a → nat_abs (number a) ≤ 16384 → nat_abs (rest a) ≡ 0 → P (Ok (Whole (number a))))
+    → (Finite a → nat_abs (number a) ≤ 16384 → (nat_abs (rest a) ≡ 0 → ⊥) → P (Ok (Near (number a) (float_of (rest a) (denominator a))))) → P (imported a)
 unfolding imported
 by_case P a not-Finite large whole near =
     by_test P (finite a)
@@ -110,32 +113,32 @@ exact a g =
 -- ---- What `import_entry` hands over, by what its tests have found
 
 module _ (a : Float) (g : T (fits binary64 a)) where
-  abbrev Answers : Entry → Type 0
+  abbrev Answers : Result Entry ImportError → Type 0
   Answers r = (r ≡ imported a) × Exact a r
 
-  answers : (r : Entry) → r ≡ imported a → Answers r
+  answers : (r : Result Entry ImportError) → r ≡ imported a → Answers r
   answers r e = (e, subst (Exact a) (sym e) (exact a g))
 
-  pub not_finite_answers : finite a ≡ false → Answers NotFinite
+  pub not_finite_answers : finite a ≡ false → Answers (Err NotFinite)
   unfolding imported
-  not_finite_answers f = answers NotFinite (rw f)
+  not_finite_answers f = answers (Err NotFinite) (rw f)
 
   module _ (f : finite a ≡ true) where
-    pub large_answers : 16384 < nat_abs (number a) → Answers TooLarge
+    pub large_answers : 16384 < nat_abs (number a) → Answers (Err TooLarge)
     unfolding imported
-    large_answers l = answers TooLarge (rw (f, lt-ltb 16384 (nat_abs (number a)) l))
+    large_answers l = answers (Err TooLarge) (rw (f, lt-ltb 16384 (nat_abs (number a)) l))
 
     module _ (l : nat_abs (number a) ≤ 16384) where
-      whole-imported : nat_abs (rest a) ≡ 0 → Whole (number a) ≡ imported a
+      whole-imported : nat_abs (rest a) ≡ 0 → Ok (Whole (number a)) ≡ imported a
       unfolding imported
       whole-imported z = rw (f, le-ltb 16384 (nat_abs (number a)) l, eq-eqb (nat_abs (rest a)) 0 z)
 
-      pub whole_answers : nat_abs (rest a) ≡ 0 → {k : ℤ} → k ≡ number a → Answers (Whole k)
-      whole_answers z {k} e = answers (Whole k) (ap Whole e ∙ whole-imported z)
+      pub whole_answers : nat_abs (rest a) ≡ 0 → {k : ℤ} → k ≡ number a → Answers (Ok (Whole k))
+      whole_answers z {k} e = answers (Ok (Whole k)) (ap (λ (k : ℤ). Ok (Whole k)) e ∙ whole-imported z)
 
-      near-imported : (nat_abs (rest a) ≡ 0 → ⊥) → Near (number a) (float_of (rest a) (denominator a)) ≡ imported a
+      near-imported : (nat_abs (rest a) ≡ 0 → ⊥) → Ok (Near (number a) (float_of (rest a) (denominator a))) ≡ imported a
       unfolding imported
       near-imported n = rw (f, le-ltb 16384 (nat_abs (number a)) l, ne_eqb (nat_abs (rest a)) 0 n)
 
-      pub near_answers : (nat_abs (rest a) ≡ 0 → ⊥) → {k : ℤ} {leftover : Float} → k ≡ number a → leftover ≡ float_of (rest a) (denominator a) → Answers (Near k leftover)
-      near_answers n {k} {leftover} e x = answers (Near k leftover) (ap₂ Near e x ∙ near-imported n)
+      pub near_answers : (nat_abs (rest a) ≡ 0 → ⊥) → {k : ℤ} {leftover : Float} → k ≡ number a → leftover ≡ float_of (rest a) (denominator a) → Answers (Ok (Near k leftover))
+      near_answers n {k} {leftover} e x = answers (Ok (Near k leftover)) (ap₂ (λ (k : ℤ) (leftover : Float). Ok (Near k leftover)) e x ∙ near-imported n)

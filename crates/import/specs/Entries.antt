@@ -1,5 +1,5 @@
 -- Document 02, request 2: one entry a of the identification tool's A and B. A finite float is numerator a / denominator a.
-use Rattle.std.specs.Prelude.{ℕ, ◌≤◌, ◌<◌, cond, ◌≡◌, eqb, ltb, ℤ, pos, neg_ℤ, nat_abs, ◌-ℤ◌, ◌*ℤ◌, Float}
+use Rattle.std.specs.Prelude.{ℕ, ◌≤◌, ◌<◌, cond, ◌≡◌, eqb, ltb, ℤ, pos, neg_ℤ, nat_abs, ◌-ℤ◌, ◌*ℤ◌, Float, Result, Ok, Err}
 use Rattle.integer.specs.Order.{◌≼◌, ◌≺◌}
 use Rattle.commands.specs.Ranges.{most_entry}
 use Rattle.tape.specs.declared.refusal.Refusal.TheVariants as refusal
@@ -7,7 +7,9 @@ use Rattle.tape.specs.Refusals.{row}
 use Rattle.float.specs.Value.{finite, Finite, numerator, denominator, Equals, float_of}
 use Rattle.float.specs.Nearest.{nearest_whole, Nearest}
 use Rattle.import.specs.declared.Entry.{Entry}
-use Rattle.import.specs.declared.Entry.TheVariants.{Whole, Near, NotFinite, TooLarge}
+use Rattle.import.specs.declared.Entry.TheVariants.{Whole, Near}
+use Rattle.import.specs.declared.ImportError.{ImportError}
+use Rattle.import.specs.declared.ImportError.TheVariants.{NotFinite, TooLarge}
 
 -- ---- The answer
 
@@ -25,20 +27,19 @@ unfolding number
 rest a = scaled a -ℤ number a *ℤ pos (denominator a)
 
 -- 16 where a is infinite or not a number; 17 where the number is beyond 16,384 in size; whole where nothing is left
-unfoldable pub imported : Float → Entry
+unfoldable pub imported : Float → Result Entry ImportError
 unfolding number rest
 imported a =
     cond (finite a)
-    (cond (ltb most_entry (nat_abs (number a))) TooLarge
-    (cond (eqb (nat_abs (rest a)) 0) (Whole (number a)) (Near (number a) (float_of (rest a) (denominator a)))))
-    NotFinite
+    (cond (ltb most_entry (nat_abs (number a))) (Err TooLarge)
+    (cond (eqb (nat_abs (rest a)) 0) (Ok (Whole (number a))) (Ok (Near (number a) (float_of (rest a) (denominator a))))))
+    (Err NotFinite)
 
 -- A refused entry's number in the table of refusals. Of an entry alone it carries nothing. 0 for a result.
-abbrev pub refusal_number : Entry → ℕ
-refusal_number (Whole k) = 0
-refusal_number (Near k leftover) = 0
-refusal_number NotFinite = (row (refusal.NotFinite 0)).number
-refusal_number TooLarge = (row (refusal.TooLarge 0)).number
+abbrev pub refusal_number : Result Entry ImportError → ℕ
+refusal_number (Ok entry) = 0
+refusal_number (Err NotFinite) = (row (refusal.NotFinite 0)).number
+refusal_number (Err TooLarge) = (row (refusal.TooLarge 0)).number
 
 -- ---- What an answer says of a, over whole numbers
 
@@ -62,8 +63,8 @@ pub record Left (a : Float) (k : ℤ) (leftover : Float) : Type 0 where
   pub exactly : Equals leftover (scaled a -ℤ k *ℤ pos (denominator a)) (denominator a)
   pub range : UnderHalf leftover
 
-abbrev pub Exact : Float → Entry → Type 0
-Exact a (Whole k) = Rounds a k × (nat_abs k ≤ most_entry) × Is a k
-Exact a (Near k leftover) = Rounds a k × (nat_abs k ≤ most_entry) × Left a k leftover
-Exact a NotFinite = Finite a → ⊥
-Exact a TooLarge = (k : ℤ) × Rounds a k × (most_entry < nat_abs k)
+abbrev pub Exact : Float → Result Entry ImportError → Type 0
+Exact a (Ok (Whole k)) = Rounds a k × (nat_abs k ≤ most_entry) × Is a k
+Exact a (Ok (Near k leftover)) = Rounds a k × (nat_abs k ≤ most_entry) × Left a k leftover
+Exact a (Err NotFinite) = Finite a → ⊥
+Exact a (Err TooLarge) = (k : ℤ) × Rounds a k × (most_entry < nat_abs k)

@@ -2,56 +2,36 @@
 #![tactic(auto)]
 
 use cases::floats::{bits, float_at};
-use cases::{Case, refused, size_at};
-use import::{Entry, import_entry};
-use models::{Model, import_model};
+use cases::{Case, each_case, refused, size_at};
+use import::{Entry, ImportError, import_entry};
+use models::import_model;
 use std::io;
-use std::io::Read;
 
 fn main(rt: HostRuntime) -> io::Result<()> {
-    let mut text = Vec::new(rt.alloc());
-    rt.reader().read_to_end(&mut text)?;
-    run(&rt, &text)
-}
-
-fn run(rt: &impl Print, text: &[u8]) -> io::Result<()> {
-    let mut case = Case::new();
-    for c in text {
-        if *c == b'\n' {
-            show(rt, case.closed())?;
-            case = Case::new();
-        } else {
-            case = case.next(*c);
-        }
-    }
-    Ok(())
+    each_case(&rt, |case| show(&rt, case))
 }
 
 fn show(rt: &impl Print, case: Case) -> io::Result<()> {
-    let kind = case.kind;
-    let bytes = case.tape;
-    let sizes = case.first;
-    match kind {
-        b'y' => show_entry(rt, float_at(&bytes, 0)),
-        b'm' => show_model(rt, &bytes, &sizes),
+    match case.word() {
+        b"entry" => show_entry(rt, float_at(&case.tape, 0)),
+        b"model" => show_model(rt, &case.tape, &case.first),
         _ => Ok(()),
     }
 }
 
 fn show_entry(rt: &impl Print, entry: f64) -> io::Result<()> {
-    let imported = import_entry(entry);
-    match imported {
-        Entry::Whole(number) => {
+    match import_entry(entry) {
+        Ok(Entry::Whole(number)) => {
             print::word(rt, b"whole")?;
             print::number(rt, number)?;
         }
-        Entry::Near(number, leftover) => {
+        Ok(Entry::Near(number, leftover)) => {
             print::word(rt, b"near")?;
             print::number(rt, number)?;
             bits(rt, leftover)?;
         }
-        Entry::NotFinite => print::word(rt, b"refused 16 -")?,
-        Entry::TooLarge => print::word(rt, b"refused 17 -")?,
+        Err(ImportError::NotFinite) => print::word(rt, b"refused 16 -")?,
+        Err(ImportError::TooLarge) => print::word(rt, b"refused 17 -")?,
     }
     print::end(rt)
 }
@@ -80,13 +60,7 @@ fn show_parts(
     out: &mut [u8],
     room: usize,
 ) -> io::Result<()> {
-    if a.len() < a_count {
-        return Ok(());
-    }
-    if b.len() < b_count {
-        return Ok(());
-    }
-    if out.len() < room {
+    if a.len() < a_count || b.len() < b_count || out.len() < room {
         return Ok(());
     }
     show_answer(rt, n, m, &a[..a_count], &b[..b_count], &mut out[..room])
@@ -100,10 +74,9 @@ fn show_answer(
     b: &[f64],
     out: &mut [u8],
 ) -> io::Result<()> {
-    let answer = import_model(n, m, a, b, out);
-    match answer {
-        Model::Written => print::word(rt, b"written")?,
-        Model::Refused(why) => refused(rt, why)?,
+    match import_model(n, m, a, b, out) {
+        Ok(()) => print::word(rt, b"written")?,
+        Err(why) => refused(rt, why)?,
     }
     print::end(rt)?;
     print::word(rt, b"out")?;

@@ -1,10 +1,10 @@
 -- Operands of any width: where they lie, what range they have, the value of a longer one from its parts, and what functions return of them.
-use Prim.Native.Nat.{ℕ, suc, ◌+◌, ◌*◌, ◌^◌, ◌<◌, ◌≤◌}
+use Prim.Native.Nat.{ℕ, suc, ◌+◌, ◌-◌, ◌*◌, ◌^◌, ◌<◌, ◌≤◌}
 use mathlib.Core.Path.{◌≡◌, refl, ◌∙◌, ap, subst}
 use mathlib.Core.Bool.{Bool, true, false, cond}
 use mathlib.Core.List.{List, [], ◌∷◌, ◌++◌}
 use native.Mathlib.Omega.{arith}
-use native.Mathlib.Nat.{pow-succ'}
+use native.Mathlib.Nat.{pow-succ', pow-le-pow_right}
 use native.Mathlib.Decide.{dec_le}
 use lib.Dec.{ltb}
 use lib.ListN.{length, take, drop, get_or, length-take, length-drop, get_or-eq_default}
@@ -114,12 +114,31 @@ pub unsigned-at : (j k : ℕ) (s : List ℕ) (at : ℕ) {low high : ℕ} → Byt
 unsigned-at j k s at b h l u =
     rw (l, u, ← unsigned_parts j k s at (omega arith)) (refl, unsigned-range (j + k) s at b h)
 
+-- one byte more in front, where the operand ends at a place
+pub unsigned_more : (s : List ℕ) (to i : ℕ) → 0 < i → i ≤ to → to ≤ length s →
+    256 * unsigned (operand (to - i) s i) + get_or s (i - 1) 0 ≡ unsigned (operand (to - (i - 1)) s (i - 1))
+unsigned_more s to i b l h =
+    let e : to - (i - 1) ≡ 1 + (to - i) = omega arith in
+    let n : i - 1 + 1 ≡ i = omega arith in
+    let p = rw (unsigned_byte s (i - 1) (omega arith), n) at (unsigned_parts 1 (to - i) s (i - 1) (omega arith)) in
+    rw e (omega (arith, p))
+
+-- at most four bytes
+pub four_bytes : (k : ℕ) → k ≤ 4 → 256 ^ k ≤ 4294967296
+four_bytes k h = pow-le-pow_right {n = 256} (omega arith) {j = 4} h
+
 -- v is the operand unsigned, and z what two's complement makes of v
+pub signed_value : (k : ℕ) (s : List ℕ) (at : ℕ) {v : ℕ} {z : ℤ} → at + k ≤ length s →
+    v ≡ unsigned (operand k s at) → z ≡ cond (ltb (2 * v) (256 ^ k)) (pos v) (pos v -ℤ pos (256 ^ k)) →
+    z ≡ signed (operand k s at)
+signed_value k s at h e f = rw (f, e, ← signed-operand k s at h) refl
+
+-- with its range, by the most that it can be
 pub signed-at : (k most : ℕ) (s : List ℕ) (at : ℕ) {v : ℕ} {z : ℤ} → 2 * (1 + most) ≡ 256 ^ k → Bytes s → at + k ≤ length s →
     v ≡ unsigned (operand k s at) → z ≡ cond (ltb (2 * v) (256 ^ k)) (pos v) (pos v -ℤ pos (256 ^ k)) →
     (z ≡ signed (operand k s at)) × (negsuc most ≼ z) × (z ≼ pos most)
 signed-at k most s at m b h e f =
     let w = signed (operand k s at) in
     let r = signed_range k s at b h in
-    rw (f, e, ← signed-operand k s at h)
+    rw (signed_value k s at h e f)
     (refl, omega (arith, order, times (pos 2) w, negated (pos (256 ^ k))), omega (arith, order, times (pos 2) w))

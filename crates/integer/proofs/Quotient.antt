@@ -1,11 +1,12 @@
 -- The quotient rounded down and the one rounded up, for a divisor from 1: what fixes them, and how the machine's quotient, rounded toward
 -- 0, gives them.
 use Prim.Native.Nat.{ℕ, suc, ◌+◌, ◌*◌, ◌/◌, ◌<◌, ◌≤◌}
-use mathlib.Core.Path.{◌≡◌, refl, sym, ◌∙◌, ap}
+use mathlib.Core.Path.{◌≡◌, refl, sym, ap}
 use native.Mathlib.Omega.{arith}
 use native.Mathlib.Nat.{div-add-mod, mod-lt, div-le_self}
 use lib.IntN.{ℤ, pos, negsuc, neg_ℤ, nat_abs, ◌+ℤ◌, ◌-ℤ◌, ◌*ℤ◌}
 use lib.Signed.{quot_z}
+use Rattle.std.specs.Int.{int_div_euclid}
 use mir.Syntax.{Width}
 use mir.Val.{SFits, of_z}
 use Rattle.integer.specs.Order.{◌≼◌, ◌≺◌}
@@ -148,14 +149,12 @@ machine_quotient (pos a) (pos d) h k = refl
 machine_quotient (pos a) (negsuc d) h k = absurd k.le
 machine_quotient (negsuc a) d h k = absurd h.le
 
--- −1 − z mirrors the numbers below 0 to those from 0 on
-pub mirrored_quotient : (z d : ℤ) → z ≺ pos 0 → pos 1 ≼ d → negsuc 0 -ℤ quot_z (negsuc 0 -ℤ z) d ≡ z ÷ d
+-- the division that rounds down where the divisor is from 1
+pub euclid_quotient : (z d : ℤ) → pos 1 ≼ d → int_div_euclid z d ≡ z ÷ d
 unfolding ◌÷◌
-mirrored_quotient (pos a) d h k = let e : ⊥ = omega (arith, order) in absurd e
-mirrored_quotient (negsuc a) (pos d) h k =
-    let e : negsuc 0 -ℤ negsuc a ≡ pos a = omega (arith, order, minus (negsuc 0) (negsuc a)) in
-    ap (λ (x : ℤ). negsuc 0 -ℤ quot_z x (pos d)) e ∙ (omega (arith, order, minus (negsuc 0) (pos (a / d))))
-mirrored_quotient (negsuc a) (negsuc d) h k = absurd k.le
+euclid_quotient (pos a) (pos d) h = refl
+euclid_quotient (negsuc a) (pos d) h = refl
+euclid_quotient z (negsuc d) h = absurd h.le
 
 -- toward 0 is up where z is at most 0
 pub machine_up : (z d : ℤ) → z ≼ pos 0 → pos 1 ≼ d → quot_z z d ≡ quotient_up z d

@@ -11,7 +11,7 @@ use lib.Signed.{mag, non_neg, yes_non_neg}
 use mir.Syntax.{Width, w32, w64}
 use mir.Val.{Fits, SFits, hbits, to_z, of_z}
 use mir.Facts.{to_z-of_z, Fits-nat_abs, sfits_widen}
-use Rattle.integer.specs.Order.{◌≼◌, ◌≺◌}
+use Rattle.integer.specs.Order.{◌≼◌}
 use Rattle.integer.specs.Places.{at, Bounded}
 use Rattle.integer.proofs.Parts.{up, dn, plus, minus, negated}
 use Rattle.integer.proofs.Order.{order, le→}
@@ -83,10 +83,6 @@ pub →fits : {w : Width} {z : ℤ} → max (suc (up z) - dn z) (dn z - up z) �
     go (negsuc n) h = omega arith
 
 pub ruleset fitting = (order, →fits)
-
--- −1 − z mirrors the numbers below 0 to those from 0 on, and so fits where z does
-pub fits_mirrored : {w : Width} (z : ℤ) → z ≺ pos 0 → SFits w z → SFits w (negsuc 0 -ℤ z)
-fits_mirrored z h f = omega (arith, fitting, fits_parts f, minus (negsuc 0) z)
 
 -- what a cast of an i64 to a u64 asks
 pub casts : {z : ℤ} → pos 0 ≼ z → SFits w64 z → T (non_neg z) × Fits w64 (nat_abs z)

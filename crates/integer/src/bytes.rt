@@ -1,53 +1,30 @@
 // Numbers as bytes, the low byte first. Operands of a tape are read, each with its range; the reader
 // knows that an operand is there, since it has refused a command that is cut. Numbers are written for
 // a tape or a record.
-ghost use Rattle.std.specs.Prelude.{◌+◌, ◌*◌, ◌<◌, ◌≤◌, ◌≡◌, cond, ltb, pos, negsuc, nat_abs, ◌-ℤ◌, length};
+ghost use Rattle.std.specs.Prelude.{◌+◌, ◌*◌, ◌^◌, ◌<◌, ◌≤◌, ◌≡◌, cond, ltb, pos, nat_abs, neg_ℤ, ◌-ℤ◌, ◌*ℤ◌, length};
 ghost use Rattle.integer.specs.Encoding.{unsigned_bytes, complement};
-ghost use Rattle.integer.specs.Order.{◌≼◌};
+ghost use Rattle.integer.specs.Order.{◌≼◌, ◌≺◌};
 ghost use Rattle.integer.specs.Operand.{unsigned, signed, operand};
 
-// One byte, unsigned.
-pub fn u8_at(s: &[u8], at: usize) -> usize
-    requires { at + 1 ≤ length s.now }
-    ensures { (result ≡ unsigned (operand 1 s.now at)) × (result < 256) }
+// N bytes, unsigned.
+pub fn unsigned_at<const N: usize>(s: &[u8], at: usize) -> usize
+    requires { (at + N ≤ length s.now) × (N ≤ 4) }
+    ensures { (result ≡ unsigned (operand N s.now at)) × (result < 256 ^ N) }
 {
-    s[at] as usize
+    let mut number: usize = 0;
+    for i in (at..at + N).rev() {
+        number = 256 * number + s[i] as usize;
+    }
+    number
 }
 
-// Two bytes, unsigned.
-pub fn u16_at(s: &[u8], at: usize) -> usize
-    requires { at + 2 ≤ length s.now }
-    ensures { (result ≡ unsigned (operand 2 s.now at)) × (result < 65536) }
+// N bytes, signed.
+pub fn signed_at<const N: usize>(s: &[u8], at: usize) -> i64
+    requires { (at + N ≤ length s.now) × (N ≤ 4) }
+    ensures value { result ≡ signed (operand N s.now at) }
+    ensures range { (neg_ℤ (pos (256 ^ N)) ≼ pos 2 *ℤ result) × (pos 2 *ℤ result ≺ pos (256 ^ N)) }
 {
-    let low = u8_at(s, at);
-    let high = u8_at(s, at + 1);
-    low + 256 * high
-}
-
-// Four bytes, unsigned.
-pub fn u32_at(s: &[u8], at: usize) -> usize
-    requires { at + 4 ≤ length s.now }
-    ensures { (result ≡ unsigned (operand 4 s.now at)) × (result < 4294967296) }
-{
-    let low = u16_at(s, at);
-    let high = u16_at(s, at + 2);
-    low + 65536 * high
-}
-
-// Two bytes, signed.
-pub fn i16_at(s: &[u8], at: usize) -> i64
-    requires { at + 2 ≤ length s.now }
-    ensures { (result ≡ signed (operand 2 s.now at)) × (negsuc 32767 ≼ result) × (result ≼ pos 32767) }
-{
-    from_twos_complement(u16_at(s, at), 65536)
-}
-
-// Four bytes, signed.
-pub fn i32_at(s: &[u8], at: usize) -> i64
-    requires { at + 4 ≤ length s.now }
-    ensures { (result ≡ signed (operand 4 s.now at)) × (negsuc 2147483647 ≼ result) × (result ≼ pos 2147483647) }
-{
-    from_twos_complement(u32_at(s, at), 4294967296)
+    from_twos_complement(unsigned_at::<N>(s, at), 256usize.pow(N as u32))
 }
 
 // The number that v stands for among count numbers of two's complement.
@@ -77,10 +54,8 @@ pub fn write_unsigned(part: &mut [u8], number: usize)
     ensures { part.new ≡ unsigned_bytes (length part.old) number }
 {
     let mut rest = number;
-    let mut i: usize = 0;
-    while i < part.len() {
-        part[i] = (rest % 256) as u8;
+    for byte in part.iter_mut() {
+        *byte = (rest % 256) as u8;
         rest = rest / 256;
-        i += 1;
     }
 }

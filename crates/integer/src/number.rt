@@ -12,10 +12,7 @@ pub fn quotient(x: i64, d: i64) -> i64
     requires { pos 1 ≼ d }
     ensures { result ≡ x ÷ d }
 {
-    if 0 <= x {
-        return x / d;
-    }
-    -1 - (-1 - x) / d
+    x.div_euclid(d)
 }
 
 // x / d rounded up. The machine rounds toward 0, which is up for numbers below 0.
@@ -46,20 +43,14 @@ pub fn limit(x: i64, lo: i64, hi: i64) -> i64
 pub fn is_outside(v: i64, lo: i64, hi: i64) -> bool
     ensures { result ≡ outside lo hi v }
 {
-    if v < lo {
-        return true;
-    }
-    hi < v
+    v < lo || hi < v
 }
 
 // The size of x. It is unsigned, so that the least i64 has one too.
 pub fn size(x: i64) -> u64
     ensures { result ≡ nat_abs x }
 {
-    if x < 0 {
-        return (-1 - x) as u64 + 1;
-    }
-    x as u64
+    x.unsigned_abs()
 }
 
 // s * s / d rounded up, exact where s * s is beyond 64 bits: with s = a * d + b the square is

@@ -1,7 +1,7 @@
 // The functions of `integer` at their edges. The expected output was worked out apart.
 #![tactic(auto)]
 
-use integer::bytes::{i16_at, i32_at, u8_at, u16_at, u32_at};
+use integer::bytes::{signed_at, unsigned_at};
 use integer::number::{limit, quotient, quotient_up, root_up, size, square_quotient};
 use std::io;
 
@@ -115,11 +115,11 @@ fn roots(rt: &impl Print) -> io::Result<()> {
 // Four bytes as every operand that starts at the first of them, and as one that ends at the last.
 fn operands(rt: &impl Print, s: &[u8; 4]) -> io::Result<()> {
     print::word(rt, b"operands")?;
-    print::unsigned(rt, u8_at(s, 0) as u64)?;
-    print::unsigned(rt, u16_at(s, 0) as u64)?;
-    print::number(rt, i16_at(s, 0))?;
-    print::number(rt, i16_at(s, 2))?;
-    print::unsigned(rt, u32_at(s, 0) as u64)?;
-    print::number(rt, i32_at(s, 0))?;
+    print::unsigned(rt, unsigned_at::<1>(s, 0) as u64)?;
+    print::unsigned(rt, unsigned_at::<2>(s, 0) as u64)?;
+    print::number(rt, signed_at::<2>(s, 0))?;
+    print::number(rt, signed_at::<2>(s, 2))?;
+    print::unsigned(rt, unsigned_at::<4>(s, 0) as u64)?;
+    print::number(rt, signed_at::<4>(s, 0))?;
     print::end(rt)
 }

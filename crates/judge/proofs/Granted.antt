@@ -9,13 +9,15 @@ use borrow.Author.Tests.{eqb-true, not-false}
 use lib.ListN.{length}
 use lib.IntN.{ℤ, pos, ◌-ℤ◌}
 use lib.Signed.{lt_z}
+use Rattle.std.specs.Prelude.{Result, Ok, Err}
 use Rattle.integer.specs.Order.{◌≼◌}
 use Rattle.integer.proofs.Operand.{Bytes}
 use Rattle.integer.proofs.Order.{order}
 use Rattle.integer.proofs.Parts.{minus}
 use Rattle.integer.proofs.Tests.{by_test, none}
-use Rattle.tape.specs.declared.Answer.{Answer}
-use Rattle.tape.specs.declared.Answer.TheVariants as answer
+use Rattle.tape.specs.declared.refusal.Refusal.{Refusal}
+use Rattle.tape.specs.Answer.{Answer}
+use Rattle.tape.specs.Answer as answer
 use Rattle.tape.specs.declared.Tape.{Tape}
 use Rattle.tape.specs.Legal.{Legal}
 use Rattle.tape.specs.Reading.{reading}
@@ -23,11 +25,7 @@ use Rattle.tape.proofs.Facts.{legal}
 use Rattle.problem.specs.Model.{problem_of, plan_of}
 use Rattle.problem.specs.Cost.{cost_of}
 use Rattle.problem.specs.Dual.{floor_of}
-use Rattle.lent.specs.declared.walk.Check.{Check}
-use Rattle.lent.specs.declared.walk.Check.TheVariants as check
 use Rattle.lent.specs.Checks.{plan_check, wrong_plan_length, wrong_multipliers_length, wrong_multipliers}
-use Rattle.judge.specs.declared.Judged.{Judged}
-use Rattle.judge.specs.declared.Judged.TheVariants.{Gap, Refused}
 use Rattle.judge.specs.Judging.{gap_within, after_check, judged_on, judged_after_read, judged}
 use Rattle.judge.specs.Demand.{NoneCheaper}
 use Rattle.judge.proofs.Accepted.{backed}
@@ -43,17 +41,17 @@ module _ (s : List ℕ) (plan y : List ℤ) (bytes : Bytes s) where
   abbrev t : Tape
   t = (reading s).tape
 
-  abbrev OnGap : Judged → Type 0
-  OnGap (Gap gap) = Granted t y gap
-  OnGap (Refused why) = Unit {0}
+  abbrev OnGap : Result ℤ Refusal → Type 0
+  OnGap (Ok gap) = Granted t y gap
+  OnGap (Err why) = Unit {0}
 
-  on_check : (c : Check) → Legal t → length y ≡ t.horizon * t.n → wrong_multipliers y ≡ false →
+  on_check : (c : Result (Unit {0}) Refusal) → Legal t → length y ≡ t.horizon * t.n → wrong_multipliers y ≡ false →
       OnGap (after_check c (gap_within t (cost_of t plan) (floor_of t y)))
   unfolding gap_within
-  on_check check.Passed ok l w =
+  on_check (Ok tt) ok l w =
       by_test OnGap (lt_z t.wanted (cost_of t plan -ℤ floor_of t y)) (λ _. tt)
       (λ e. record { lawful = ok; long = l; ranged = w; wanted = omega (arith, order) })
-  on_check (check.Failed why) ok l w = tt
+  on_check (Err why) ok l w = tt
 
   on_gap : OnGap (judged s plan y)
   unfolding judged judged_on
@@ -67,7 +65,7 @@ module _ (s : List ℕ) (plan y : List ℤ) (bytes : Bytes s) where
           (eqb-true _ _ (not-false _ (none (wrong_plan_length t plan) (wrong_multipliers_length t y ∷ []) l).1.0))))
       go (answer.Refused why) e = tt
 
-  module _ (gap : ℤ) (is : judged s plan y ≡ Gap gap) where
+  module _ (gap : ℤ) (is : judged s plan y ≡ Ok gap) where
     pub granted : Granted t y gap
     granted = rw is at on_gap
 

@@ -8,14 +8,15 @@ use native.Mathlib.Omega.{arith}
 use borrow.Author.Tests.{lt-ltb, le-ltb}
 use lib.IntN.{ℤ, ◌-ℤ◌}
 use lib.Signed.{lt_z}
+use Rattle.std.specs.Prelude.{Result, Ok, Err}
 use Rattle.integer.specs.Order.{◌≼◌}
 use Rattle.integer.specs.Places.{at}
 use Rattle.integer.proofs.Order.{order}
 use Rattle.integer.proofs.Operand.{Bytes}
 use Rattle.integer.proofs.Places.{earlier_step}
 use Rattle.integer.proofs.Tests.{by_test}
-use Rattle.tape.specs.declared.Answer.{Answer}
-use Rattle.tape.specs.declared.Answer.TheVariants as answer
+use Rattle.tape.specs.Answer.{Answer}
+use Rattle.tape.specs.Answer as answer
 use Rattle.tape.specs.declared.Tape.{Tape}
 use Rattle.tape.specs.declared.refusal.Fault.{Fault}
 use Rattle.tape.specs.declared.refusal.Span.{Span}
@@ -28,15 +29,9 @@ use Rattle.problem.specs.Model.{Problem, Plan, problem_of, input_place, state_pl
 use Rattle.problem.specs.Cost.{Follows, cost_of}
 use Rattle.problem.specs.Dual.{floor_of}
 use Rattle.problem.proofs.Congruence.{model_cong}
-use Rattle.lent.specs.declared.walk.Check.{Check}
-use Rattle.lent.specs.declared.walk.Check.TheVariants.{Passed, Failed}
-use Rattle.lent.specs.declared.walk.Test.{Test}
-use Rattle.lent.specs.declared.walk.Test.TheVariants.{Model, Limits}
-use Rattle.lent.specs.Checks.{first, meets, input_check_of, state_check_of, step_check, plan_check, wrong_multipliers, wrong_plan_length, wrong_multipliers_length}
+use Rattle.lent.specs.Checks.{first, input_check_of, state_check_of, step_check, plan_check, wrong_multipliers, wrong_plan_length, wrong_multipliers_length}
 use Rattle.lent.proofs.Steps.{first-each}
 use Rattle.lent.proofs.Faults.{either_failed, first_found, Strayed, strayed, state-failed}
-use Rattle.judge.specs.declared.Judged.{Judged}
-use Rattle.judge.specs.declared.Judged.TheVariants.{Gap, Refused}
 use Rattle.judge.specs.Judging.{gap_within, after_check, judged_on, judged_after_read, judged}
 use Rattle.judge.specs.Demand.{Backed}
 use Rattle.judge.specs.Reasons.{place_of, SameBefore, FollowsBefore, FirstFault, OffTheModel, OverTheLimit, TooWide, Reasoned}
@@ -57,17 +52,17 @@ sum_same t k i a b h = model_cong t.n t.m _ _ _ _ _ _ _ i (states k h) (λ j l. 
 
 -- the first k steps have passed, and of step k the first j inputs and the first i states, which come behind all inputs
 module _ (q : Problem) (v : Plan) (k j i : ℕ) (below : j + i < q.n + q.m) (inputs-first : (i ≡ 0) ⊎ (j ≡ q.m)) (few : j ≤ q.m)
-    (steps : first k (step_check q v) ≡ Passed) (inputs : first j (input_check_of q v k) ≡ Passed) (states : first i (state_check_of q v k) ≡ Passed) where
-  step_before : (l : ℕ) → l < k → (first q.m (input_check_of q v l) ≡ Passed) × (first q.n (state_check_of q v l) ≡ Passed)
+    (steps : first k (step_check q v) ≡ Ok tt) (inputs : first j (input_check_of q v k) ≡ Ok tt) (states : first i (state_check_of q v k) ≡ Ok tt) where
+  step_before : (l : ℕ) → l < k → (first q.m (input_check_of q v l) ≡ Ok tt) × (first q.n (state_check_of q v l) ≡ Ok tt)
   step_before l e = step-passed q v l (first-each k (step_check q v) steps l e)
 
-  input_before : (l a : ℕ) → a < q.m → input_place q.n q.m l a < k * (q.n + q.m) + (j + i) → input_check_of q v l a ≡ Passed
+  input_before : (l a : ℕ) → a < q.m → input_place q.n q.m l a < k * (q.n + q.m) + (j + i) → input_check_of q v l a ≡ Ok tt
   input_before l a h p =
       ⊎_elim (λ e. first-each q.m (input_check_of q v l) (step_before l e).0 a h)
       (λ e. let u : a < j = ⊎_elim (λ z. omega (arith, e.1)) (λ z. omega arith) inputs-first in rw e.0 (first-each j (input_check_of q v k) inputs a u))
       (earlier_step (q.n + q.m) l a k (j + i) below p)
 
-  state_before : (l a : ℕ) → a < q.n → state_place q.n q.m l a < k * (q.n + q.m) + (j + i) → state_check_of q v l a ≡ Passed
+  state_before : (l a : ℕ) → a < q.n → state_place q.n q.m l a < k * (q.n + q.m) + (j + i) → state_check_of q v l a ≡ Ok tt
   state_before l a h p =
       ⊎_elim (λ e. first-each q.n (state_check_of q v l) (step_before l e).1 a h)
       (λ e. rw e.0 (first-each i (state_check_of q v k) states a (omega (arith, e.1))))
@@ -82,13 +77,13 @@ module _ (q : Problem) (v : Plan) (k j i : ℕ) (below : j + i < q.n + q.m) (inp
 
 -- ---- Each answer with its reason
 
-number_of : Judged → ℕ
-number_of (Gap gap) = 0
-number_of (Refused why) = (row why).number
+number_of : Result ℤ Refusal → ℕ
+number_of (Ok gap) = 0
+number_of (Err why) = (row why).number
 
 module _ (s : List ℕ) (plan y : List ℤ) where
   -- any other answer than 10, 11 and 13
-  other_reasoned : (a : Judged) → (number_of a ≡ 10 → ⊥) → (number_of a ≡ 11 → ⊥) → (number_of a ≡ 13 → ⊥) → Reasoned a s plan y
+  other_reasoned : (a : Result ℤ Refusal) → (number_of a ≡ 10 → ⊥) → (number_of a ≡ 11 → ⊥) → (number_of a ≡ 13 → ⊥) → Reasoned a s plan y
   unfolding number_of
   other_reasoned a no-10 no-11 no-13 = record {
     off_model = λ fault e. absurd (no-10 (ap number_of e));
@@ -96,7 +91,7 @@ module _ (s : List ℕ) (plan y : List ℤ) where
     wide = λ span e. absurd (no-13 (ap number_of e));
   }
 
-  off_model_reasoned : (fault : Fault) → OffTheModel s (reading s).tape plan fault → Reasoned (Refused (OffModel fault)) s plan y
+  off_model_reasoned : (fault : Fault) → OffTheModel s (reading s).tape plan fault → Reasoned (Err (OffModel fault)) s plan y
   unfolding number_of
   off_model_reasoned fault h = record {
     off_model = λ f e. let same : f ≡ fault = cc in rw same h;
@@ -104,7 +99,7 @@ module _ (s : List ℕ) (plan y : List ℤ) where
     wide = λ f e. let z = ap number_of e in absurd (omega (arith, z));
   }
 
-  over_limit_reasoned : (fault : Fault) → OverTheLimit s (reading s).tape plan fault → Reasoned (Refused (OverLimit fault)) s plan y
+  over_limit_reasoned : (fault : Fault) → OverTheLimit s (reading s).tape plan fault → Reasoned (Err (OverLimit fault)) s plan y
   unfolding number_of
   over_limit_reasoned fault h = record {
     off_model = λ f e. let z = ap number_of e in absurd (omega (arith, z));
@@ -112,7 +107,7 @@ module _ (s : List ℕ) (plan y : List ℤ) where
     wide = λ f e. let z = ap number_of e in absurd (omega (arith, z));
   }
 
-  wide_reasoned : (span : Span) → TooWide (reading s).tape plan y span → Reasoned (Refused (Wide span)) s plan y
+  wide_reasoned : (span : Span) → TooWide (reading s).tape plan y span → Reasoned (Err (Wide span)) s plan y
   unfolding number_of
   wide_reasoned span h = record {
     off_model = λ f e. let z = ap number_of e in absurd (omega (arith, z));
@@ -123,7 +118,7 @@ module _ (s : List ℕ) (plan y : List ℤ) where
 -- ---- The fault of one number
 
 -- a number that strayed is not within its limits, in whichever list it stands
-strayed_outside : {test : Test} {k c : ℕ} {lo hi v w : ℤ} {why : Refusal} → Strayed test k c lo hi v why → w ≡ v → (lo ≼ w) × (w ≼ hi) → ⊥
+strayed_outside : {refusal : Fault → Refusal} {k c : ℕ} {lo hi v w : ℤ} {why : Refusal} → Strayed refusal k c lo hi v why → w ≡ v → (lo ≼ w) × (w ≼ hi) → ⊥
 strayed_outside r e h = ⊎_elim (λ d. omega (arith, order)) (λ d. omega (arith, order)) r.side
 
 module _ (s : List ℕ) (bytes : Bytes s) (plan y : List ℤ) where
@@ -163,11 +158,11 @@ module _ (s : List ℕ) (bytes : Bytes s) (plan y : List ℤ) where
   abbrev v : Plan
   v = planned plan
 
-  input_reason : {why : Refusal} (k j : ℕ) → k < t.horizon → j < t.m → first k (step_check q v) ≡ Passed → first j (input_check_of q v k) ≡ Passed →
-      input_check_of q v k j ≡ Failed why → Reasoned (Refused why) s plan y
+  input_reason : {why : Refusal} (k j : ℕ) → k < t.horizon → j < t.m → first k (step_check q v) ≡ Ok tt → first j (input_check_of q v k) ≡ Ok tt →
+      input_check_of q v k j ≡ Err why → Reasoned (Err why) s plan y
   unfolding first
   input_reason k j h l steps inputs e =
-      let r = strayed Limits k (t.n + j) _ _ (v.u k j) e in
+      let r = strayed OverLimit k (t.n + j) _ _ (v.u k j) e in
       let last : j + 0 ≡ j = omega arith in
       let earlier = rw last at (follows_before q v k j 0 (omega arith) (inl refl) (omega arith) steps inputs refl) in
       rw r.is
@@ -181,8 +176,8 @@ module _ (s : List ℕ) (bytes : Bytes s) (plan y : List ℤ) where
       }))
 
   -- of a state whose inputs have passed
-  module _ (k i : ℕ) (h : k < t.horizon) (l : i < t.n) (steps : first k (step_check q v) ≡ Passed) (inputs : first t.m (input_check_of q v k) ≡ Passed)
-      (states : first i (state_check_of q v k) ≡ Passed) where
+  module _ (k i : ℕ) (h : k < t.horizon) (l : i < t.n) (steps : first k (step_check q v) ≡ Ok tt) (inputs : first t.m (input_check_of q v k) ≡ Ok tt)
+      (states : first i (state_check_of q v k) ≡ Ok tt) where
     abbrev place : ℕ
     place = state_place t.n t.m k i
 
@@ -190,8 +185,8 @@ module _ (s : List ℕ) (bytes : Bytes s) (plan y : List ℤ) where
     state_fault due alone =
         first_fault k i place due h (omega arith) (state_place_lem k i l) (follows_before q v k t.m i (omega arith) (inr refl) (omega arith) steps inputs states) alone
 
-    state_limit_reason : {why : Refusal} → v.x k i ≡ rounded (sum_at q v k i) → Strayed Limits k i (at t.low i) (at t.high i) (v.x k i) why →
-        Reasoned (Refused why) s plan y
+    state_limit_reason : {why : Refusal} → v.x k i ≡ rounded (sum_at q v k i) → Strayed OverLimit k i (at t.low i) (at t.high i) (v.x k i) why →
+        Reasoned (Err why) s plan y
     state_limit_reason model r =
         rw r.is
         (over_limit_reasoned s plan y _
@@ -201,7 +196,7 @@ module _ (s : List ℕ) (bytes : Bytes s) (plan y : List ℤ) where
           meets = λ _. model;
         }))
 
-    model_reason : {why : Refusal} → Strayed Model k i (rounded (sum_at q v k i)) (rounded (sum_at q v k i)) (v.x k i) why → Reasoned (Refused why) s plan y
+    model_reason : {why : Refusal} → Strayed OffModel k i (rounded (sum_at q v k i)) (rounded (sum_at q v k i)) (v.x k i) why → Reasoned (Err why) s plan y
     model_reason r =
         rw r.is
         (off_model_reasoned s plan y _
@@ -218,13 +213,13 @@ module _ (s : List ℕ) (bytes : Bytes s) (plan y : List ℤ) where
         differs : v.x k i ≡ r.due → ⊥
         differs e = ⊎_elim (λ d. omega (arith, order, d.1)) (λ d. omega (arith, order, d.1)) r.side
 
-    state_reason : {why : Refusal} → state_check_of q v k i ≡ Failed why → Reasoned (Refused why) s plan y
+    state_reason : {why : Refusal} → state_check_of q v k i ≡ Err why → Reasoned (Err why) s plan y
     state_reason e =
-        ⊎_elim (λ model. model_reason (strayed Model k i _ _ (v.x k i) model))
-        (λ limit. state_limit_reason (meets_model k i (sum_at q v k i) (v.x k i) limit.0) (strayed Limits k i _ _ (v.x k i) limit.1))
+        ⊎_elim (λ model. model_reason (strayed OffModel k i _ _ (v.x k i) model))
+        (λ limit. state_limit_reason (meets_model k i (sum_at q v k i) (v.x k i) limit.0) (strayed OverLimit k i _ _ (v.x k i) limit.1))
         (state-failed k i _ _ _ (v.x k i) e)
 
-  plan_reason : {why : Refusal} → plan_check q v ≡ Failed why → Reasoned (Refused why) s plan y
+  plan_reason : {why : Refusal} → plan_check q v ≡ Err why → Reasoned (Err why) s plan y
   unfolding plan_check step_check
   plan_reason e =
       let step = first_found t.horizon (step_check q v) e in
@@ -237,13 +232,13 @@ module _ (s : List ℕ) (bytes : Bytes s) (plan y : List ℤ) where
 
   -- ---- All answers
 
-  check_reason : (c : Check) → plan_check q v ≡ c → Reasoned (after_check c (gap_within t (cost_of t plan) (floor_of t y))) s plan y
+  check_reason : (c : Result (Unit {0}) Refusal) → plan_check q v ≡ c → Reasoned (after_check c (gap_within t (cost_of t plan) (floor_of t y))) s plan y
   unfolding gap_within number_of
-  check_reason Passed e =
+  check_reason (Ok tt) e =
       by_test (λ j. Reasoned j s plan y) (lt_z t.wanted (cost_of t plan -ℤ floor_of t y))
       (λ w. wide_reasoned s plan y _ (record { follows = follows q v e; cost = refl; floor = refl; above = omega (arith, order) }))
       (λ _. other_reasoned s plan y _ (λ z. omega arith) (λ z. omega arith) (λ z. omega arith))
-  check_reason (Failed why) e = plan_reason e
+  check_reason (Err why) e = plan_reason e
 
   judged_reason : Reasoned (judged_on t plan y) s plan y
   unfolding judged_on number_of
@@ -266,6 +261,6 @@ module _ (s : List ℕ) (bytes : Bytes s) (plan y : List ℤ) where
           other_reasoned s plan y _ (other 10 (omega arith)) (other 11 (omega arith)) (other 13 (omega arith))
 
 -- all clauses of a judge's promise from the first
-pub plan_promise : (s : List ℕ) (plan y : List ℤ) {r : Judged} → Bytes s → r ≡ judged s plan y →
+pub plan_promise : (s : List ℕ) (plan y : List ℤ) {r : Result ℤ Refusal} → Bytes s → r ≡ judged s plan y →
     (r ≡ judged s plan y) × (Backed r (reading s).tape plan y × Reasoned r s plan y)
 plan_promise s plan y b e = (e, (rw e (backed s plan y b), rw e (reasoned s b plan y)))

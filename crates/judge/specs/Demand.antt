@@ -1,15 +1,12 @@
 -- Demand 3, over what a judge answers.
-use Rattle.std.specs.Prelude.{◌≡◌, List, ℤ, ◌-ℤ◌, ◌*ℤ◌}
+use Rattle.std.specs.Prelude.{◌≡◌, List, ℤ, ◌-ℤ◌, ◌*ℤ◌, Result, Ok, Err}
 use Rattle.integer.specs.Order.{◌≼◌}
+use Rattle.tape.specs.declared.refusal.Refusal.{Refusal}
 use Rattle.tape.specs.declared.Tape.{Tape}
 use Rattle.problem.specs.Model.{problem_of}
 use Rattle.problem.specs.Cost.{square, FollowsTape, cost_of}
 use Rattle.problem.specs.Rival.{Rival, rival_cost}
 use Rattle.problem.specs.Dual.{floor_of}
-use Rattle.judge.specs.declared.Judged.{Judged}
-use Rattle.judge.specs.declared.Judged.TheVariants as judged
-use Rattle.judge.specs.declared.Shown.{Shown}
-use Rattle.judge.specs.declared.Shown.TheVariants as shown
 
 -- Every rival in units of 1/D costs at least the plan's cost minus the gap. Its cost is in units of 1/D².
 abbrev pub NoneCheaperIn : ℤ → Tape → List ℤ → ℤ → Type 0
@@ -24,15 +21,15 @@ pub record NoneCheaper (t : Tape) (plan y : List ℤ) (gap : ℤ) : Type 0 where
   pub bound : (D : ℤ) → NoneCheaperIn D t plan gap
 
 -- A plan that is accepted.
-abbrev pub Backed : Judged → Tape → List ℤ → List ℤ → Type 0
-Backed (judged.Gap gap) t plan y = NoneCheaper t plan y gap
-Backed (judged.Refused why) t plan y = Unit {0}
+abbrev pub Backed : Result ℤ Refusal → Tape → List ℤ → List ℤ → Type 0
+Backed (Ok gap) t plan y = NoneCheaper t plan y gap
+Backed (Err why) t plan y = Unit {0}
 
 -- No list is a rival, in any units.
 pub record NoRival (t : Tape) : Type 0 where
   pub none : (D : ℤ) (rival : List ℤ) → Rival (problem_of t) D rival → ⊥
 
 -- 'Shown' counts as 'impossible'.
-abbrev pub Founded : Shown → Tape → Type 0
-Founded shown.Shown t = NoRival t
-Founded (shown.Refused why) t = Unit {0}
+abbrev pub Founded : Result (Unit {0}) Refusal → Tape → Type 0
+Founded (Ok tt) t = NoRival t
+Founded (Err why) t = Unit {0}

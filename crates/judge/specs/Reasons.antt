@@ -1,8 +1,9 @@
 -- Document 02, request 6: what 10, 11 and 13 carry is the true reason of the refusal.
-use Rattle.std.specs.Prelude.{ℕ, ◌+◌, ◌-◌, ◌<◌, ◌≡◌, cond, List, ◌⊎◌, ltb, ℤ, ◌-ℤ◌}
+use Rattle.std.specs.Prelude.{ℕ, ◌+◌, ◌-◌, ◌<◌, ◌≡◌, cond, List, ◌⊎◌, ltb, ℤ, ◌-ℤ◌, Result, Ok, Err}
 use Rattle.integer.specs.Order.{◌≺◌}
 use Rattle.integer.specs.Places.{at}
 use Rattle.tape.specs.Reading.{reading}
+use Rattle.tape.specs.declared.refusal.Refusal.{Refusal}
 use Rattle.tape.specs.declared.Tape.{Tape}
 use Rattle.tape.specs.declared.refusal.Fault.{Fault}
 use Rattle.tape.specs.declared.refusal.Span.{Span}
@@ -10,8 +11,6 @@ use Rattle.tape.specs.declared.refusal.Refusal.TheVariants.{OffModel, OverLimit,
 use Rattle.problem.specs.Model.{Problem, Plan, problem_of, input_place, state_place, plan_of, sum_at, rounded}
 use Rattle.problem.specs.Cost.{Within, Follows, cost_of}
 use Rattle.problem.specs.Dual.{floor_of}
-use Rattle.judge.specs.declared.Judged.{Judged}
-use Rattle.judge.specs.declared.Judged.TheVariants.{Gap, Refused}
 use Rattle.judge.specs.Judging.{judged}
 
 -- The place of step k and column c in a plan: the number there is a state of x(k+1), or an input of u(k). Places are tested in their order.
@@ -30,7 +29,7 @@ pub record FollowsBefore (place : ℕ) (q : Problem) (v : Plan) : Type 0 where
 
 -- Judging s with a plan that has the same numbers up to and including a place gives no gap, whatever the rest and the multipliers.
 pub record NoGapWith (s : List ℕ) (plan : List ℤ) (place : ℕ) : Type 0 where
-  pub none : (other y : List ℤ) → SameBefore (place + 1) other plan → (gap : ℤ) → judged s other y ≡ Gap gap → ⊥
+  pub none : (other y : List ℤ) → SameBefore (place + 1) other plan → (gap : ℤ) → judged s other y ≡ Ok gap → ⊥
 
 -- A fault is the first of the plan, and alone a reason to refuse it.
 pub record FirstFault (s : List ℕ) (t : Tape) (plan : List ℤ) (fault : Fault) : Type 0 where
@@ -63,7 +62,7 @@ pub record TooWide (t : Tape) (plan y : List ℤ) (span : Span) : Type 0 where
   pub above : t.wanted ≺ span.cost -ℤ span.floor
 
 -- What an answer carries is its true reason.
-pub record Reasoned (answer : Judged) (s : List ℕ) (plan y : List ℤ) : Type 0 where
-  pub off_model : (fault : Fault) → answer ≡ Refused (OffModel fault) → OffTheModel s (reading s).tape plan fault
-  pub over_limit : (fault : Fault) → answer ≡ Refused (OverLimit fault) → OverTheLimit s (reading s).tape plan fault
-  pub wide : (span : Span) → answer ≡ Refused (Wide span) → TooWide (reading s).tape plan y span
+pub record Reasoned (answer : Result ℤ Refusal) (s : List ℕ) (plan y : List ℤ) : Type 0 where
+  pub off_model : (fault : Fault) → answer ≡ Err (OffModel fault) → OffTheModel s (reading s).tape plan fault
+  pub over_limit : (fault : Fault) → answer ≡ Err (OverLimit fault) → OverTheLimit s (reading s).tape plan fault
+  pub wide : (span : Span) → answer ≡ Err (Wide span) → TooWide (reading s).tape plan y span

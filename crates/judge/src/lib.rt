@@ -18,39 +18,22 @@ ghost use Rattle.judge.specs.Reasons.{Reasoned};
 
 use dual::floor::floor_of;
 use lent::multipliers::{is_any_outside, padded_multipliers};
-use lent::walk::{Check, checked_plan};
+use lent::walk::checked_plan;
 use primal::cost::{ceiling_of, plan_cost};
 use primal::terms::{Terms, terms_of};
 use tape::refusal::{Refusal, Span};
-use tape::{Answer, Tape, read};
-
-#[derive(Clone, Copy)]
-pub enum Judged {
-    Gap(i64),
-    Refused(Refusal),
-}
-
-#[derive(Clone, Copy)]
-pub enum Shown {
-    Shown,
-    Refused(Refusal),
-}
+use tape::{Tape, read};
 
 // Judges a plan with multipliers: the gap, or the first refusal.
-pub fn judge_plan(tape: &[u8], plan: &[i32], multipliers: &[i32]) -> Judged
+pub fn judge_plan(tape: &[u8], plan: &[i32], multipliers: &[i32]) -> Result<i64, Refusal>
     ensures value { result ≡ judged tape.now plan.now multipliers.now }
     ensures backed { Backed result (reading tape.now).tape plan.now multipliers.now }
     ensures reasoned { Reasoned result tape.now plan.now multipliers.now }
 {
-    let result = read(tape);
-    let answer = result.answer;
-    match answer {
-        Answer::Accepted => judge_on(result.tape, plan, multipliers),
-        Answer::Refused(why) => Judged::Refused(why),
-    }
+    judge_on(read(tape)?, plan, multipliers)
 }
 
-fn judge_on(t: Tape, plan: &[i32], multipliers: &[i32]) -> Judged
+fn judge_on(t: Tape, plan: &[i32], multipliers: &[i32]) -> Result<i64, Refusal>
     requires { Legal t }
     ensures { result ≡ judged_on t plan.now multipliers.now }
 {
@@ -58,27 +41,22 @@ fn judge_on(t: Tape, plan: &[i32], multipliers: &[i32]) -> Judged
     let m = t.m;
     let horizon = t.horizon;
     if plan.len() != horizon * (n + m) {
-        return Judged::Refused(Refusal::Length);
+        return Err(Refusal::Length);
     }
     if multipliers.len() != horizon * n {
-        return Judged::Refused(Refusal::Length);
+        return Err(Refusal::Length);
     }
     if is_any_outside(multipliers) {
-        return Judged::Refused(Refusal::Multiplier);
+        return Err(Refusal::Multiplier);
     }
     let y = padded_multipliers(multipliers, n, horizon);
     let terms = terms_of(t);
-    let walk = checked_plan(t, terms, plan);
-    let v = walk.plan;
-    let check = walk.check;
-    match check {
-        Check::Passed => judge_gap(t, terms, v, y),
-        Check::Failed(why) => Judged::Refused(why),
-    }
+    let v = checked_plan(&t, &terms, plan)?;
+    judge_gap(t, terms, v, y)
 }
 
 // The gap of a plan that follows the tape, held against T.
-fn judge_gap(t: Tape, terms: Terms, v: [i64; 120], y: [i64; 72]) -> Judged
+fn judge_gap(t: Tape, terms: Terms, v: [i64; 120], y: [i64; 72]) -> Result<i64, Refusal>
     requires legal { Legal t × TermsOf t terms.penalty terms.low terms.high terms.reference }
     requires bounded { Bounded most_number v × BlankPlan t.n t.m v × Bounded most_multiplier y × BlankMultipliers t.n y }
     ensures { result ≡ gap_within t (plan_cost (problem_of t) (padded_plan v)) (floor (problem_of t) (padded y)) }
@@ -99,9 +77,9 @@ fn judge_gap(t: Tape, terms: Terms, v: [i64; 120], y: [i64; 72]) -> Judged
             cost: cost,
             floor: floor,
         };
-        return Judged::Refused(Refusal::Wide(span));
+        return Err(Refusal::Wide(span));
     }
-    Judged::Gap(gap)
+    Ok(gap)
 }
 
 // The floor under all plans of a tape.
@@ -126,36 +104,31 @@ fn tape_floor(t: Tape, terms: Terms, y: [i64; 72]) -> i64
 }
 
 // Judges multipliers for impossibility.
-pub fn judge_multipliers(tape: &[u8], multipliers: &[i32]) -> Shown
+pub fn judge_multipliers(tape: &[u8], multipliers: &[i32]) -> Result<(), Refusal>
     ensures value { result ≡ shown tape.now multipliers.now }
     ensures founded { Founded result (reading tape.now).tape }
 {
-    let result = read(tape);
-    let answer = result.answer;
-    match answer {
-        Answer::Accepted => show_on(result.tape, multipliers),
-        Answer::Refused(why) => Shown::Refused(why),
-    }
+    show_on(read(tape)?, multipliers)
 }
 
-fn show_on(t: Tape, multipliers: &[i32]) -> Shown
+fn show_on(t: Tape, multipliers: &[i32]) -> Result<(), Refusal>
     requires { Legal t }
     ensures { result ≡ shown_on t multipliers.now }
 {
     let n = t.n;
     let horizon = t.horizon;
     if multipliers.len() != horizon * n {
-        return Shown::Refused(Refusal::Length);
+        return Err(Refusal::Length);
     }
     if is_any_outside(multipliers) {
-        return Shown::Refused(Refusal::Multiplier);
+        return Err(Refusal::Multiplier);
     }
     let y = padded_multipliers(multipliers, n, horizon);
     let terms = terms_of(t);
     if is_shown(t, terms, y) {
-        return Shown::Shown;
+        return Ok(());
     }
-    Shown::Refused(Refusal::NotShown)
+    Err(Refusal::NotShown)
 }
 
 // Whether the floor exceeds the ceiling.

@@ -10,7 +10,6 @@ use lib.ListN.{length}
 use lib.IntN.{ℤ, pos, nat_abs, neg_ℤ}
 use borrow.Author.Tests.{ltb-true, ltb-false, lt-ltb, le-ltb}
 use Rattle.integer.specs.Places.{at, Bounded, Stretch, Steps}
-use Rattle.integer.specs.Tests.{outside}
 use Rattle.integer.proofs.Sizes.{size_low, size-high}
 use Rattle.integer.proofs.Places.{lt_or_le, all_bounded, steps-bounded}
 use Rattle.integer.proofs.Tests.{in_size, not_outside, by_test, any_none, any_all}

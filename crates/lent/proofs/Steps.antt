@@ -8,6 +8,7 @@ use native.Mathlib.Numerals.{add-one}
 use native.Mathlib.Omega.{arith}
 use lib.IntN.{ℤ, nat_abs}
 use lib.Signed.{lt_z}
+use Rattle.std.specs.Prelude.{Result, Ok, Err, MatchResult, IsErrAnd, OnOk}
 use Rattle.integer.specs.Order.{◌≼◌}
 use Rattle.integer.specs.Places.{at, Bounded, Stretch}
 use Rattle.integer.proofs.Order.{order}
@@ -15,7 +16,9 @@ use Rattle.integer.proofs.Places.{lt_or_le, stretch_bounded, stretch_cong}
 use Rattle.integer.proofs.Tests.{not_less, not_outside, range_size}
 use Rattle.commands.specs.Ranges.{most_number}
 use Rattle.tape.specs.declared.Tape.{Tape}
+use Rattle.tape.specs.declared.refusal.Fault.{Fault}
 use Rattle.tape.specs.declared.refusal.Refusal.{Refusal}
+use Rattle.tape.specs.declared.refusal.Refusal.TheVariants.{OverLimit}
 use Rattle.tape.specs.Legal.{Legal}
 use Rattle.problem.specs.Model.{Term, problem_of, plan_of, sum_at}
 use Rattle.primal.specs.Terms.{TermsOf}
@@ -23,91 +26,95 @@ use Rattle.primal.specs.Held.{HeldPlan}
 use Rattle.primal.proofs.ModelSizes.{model_at}
 use Rattle.primal.proofs.Padding.{model_padded}
 use Rattle.primal.proofs.HeldSteps.{model_held, held_next}
-use Rattle.lent.specs.declared.walk.Check.{Check}
-use Rattle.lent.specs.declared.walk.Check.TheVariants.{Passed, Failed}
-use Rattle.lent.specs.declared.walk.Test.{Test}
-use Rattle.lent.specs.declared.walk.Test.TheVariants.{Limits}
-use Rattle.lent.specs.Checks.{or_else, first, tested, limits, meets, state_check, step_check}
-use Rattle.lent.specs.Held.{FilledWhenPassed, HeldWhenPassed}
+use Rattle.lent.specs.Checks.{or_else, first, tested, refused_as, limits, meets, state_check, step_check}
 
 -- ---- The first failure
 
-pub first-none : (f : ℕ → Check) → first 0 f ≡ Passed
+pub first-none : (f : ℕ → Result (Unit {0}) Refusal) → first 0 f ≡ Ok tt
 unfolding first
 first-none f = refl
 
-pub first-passed : (n : ℕ) (f : ℕ → Check) → first n f ≡ Passed → f n ≡ Passed → first (n + 1) f ≡ Passed
+pub first-passed : (n : ℕ) (f : ℕ → Result (Unit {0}) Refusal) → first n f ≡ Ok tt → f n ≡ Ok tt → first (n + 1) f ≡ Ok tt
 unfolding first
 first-passed n f e d = ap (λ (k : ℕ). first k f) (add-one n) ∙ ap₂ or_else e d
 
-pub first-failed : {why : Refusal} (i n : ℕ) (f : ℕ → Check) → i < n → first i f ≡ Passed → f i ≡ Failed why → first n f ≡ Failed why
+pub first-failed : {why : Refusal} (i n : ℕ) (f : ℕ → Result (Unit {0}) Refusal) → i < n → first i f ≡ Ok tt → f i ≡ Err why → first n f ≡ Err why
 unfolding first
 first-failed i zero f h e d = let z : ⊥ = omega arith in absurd z
 first-failed i (suc n) f h e d =
-    ⊎_elim (λ l. ap (λ (c : Check). or_else c (f n)) (first-failed i n f l e d)) (λ l. let q : n ≡ i = omega arith in rw q (ap₂ or_else e d))
+    ⊎_elim (λ l. ap (λ (c : Result (Unit {0}) Refusal). or_else c (f n)) (first-failed i n f l e d)) (λ l. let q : n ≡ i = omega arith in rw q (ap₂ or_else e d))
     (lt_or_le i n)
 
-first_cong : (n : ℕ) (f g : ℕ → Check) → ((j : ℕ) → j < n → f j ≡ g j) → first n f ≡ first n g
+first_cong : (n : ℕ) (f g : ℕ → Result (Unit {0}) Refusal) → ((j : ℕ) → j < n → f j ≡ g j) → first n f ≡ first n g
 unfolding first
 first_cong zero f g h = refl
 first_cong (suc n) f g h = ap₂ or_else (first_cong n f g (λ j p. h j (omega arith))) (h n (omega arith))
 
-pub both_passed : (c d : Check) → or_else c d ≡ Passed → (c ≡ Passed) × (d ≡ Passed)
-both_passed Passed d e = (refl, e)
-both_passed (Failed why) d e = let z : ◌≡◌ {A = ℕ} 0 1 = cc in absurd (omega arith)
+pub both_passed : (c d : Result (Unit {0}) Refusal) → or_else c d ≡ Ok tt → (c ≡ Ok tt) × (d ≡ Ok tt)
+both_passed (Ok tt) d e = (refl, e)
+both_passed (Err why) d e = cc
 
-pub first-each : (n : ℕ) (f : ℕ → Check) → first n f ≡ Passed → (j : ℕ) → j < n → f j ≡ Passed
+pub first-each : (n : ℕ) (f : ℕ → Result (Unit {0}) Refusal) → first n f ≡ Ok tt → (j : ℕ) → j < n → f j ≡ Ok tt
 unfolding first
 first-each zero f e j h = let z : ⊥ = omega arith in absurd z
 first-each (suc n) f e j h =
     let b = both_passed (first n f) (f n) e in
     ⊎_elim (λ l. first-each n f b.0 j l) (λ l. let q : j ≡ n = omega arith in rw q b.1) (lt_or_le j n)
 
-pub first_all : (n : ℕ) (f : ℕ → Check) → ((j : ℕ) → j < n → f j ≡ Passed) → first n f ≡ Passed
+pub first_all : (n : ℕ) (f : ℕ → Result (Unit {0}) Refusal) → ((j : ℕ) → j < n → f j ≡ Ok tt) → first n f ≡ Ok tt
 unfolding first
 first_all zero f h = refl
 first_all (suc n) f h = ap₂ or_else (first_all n f (λ j l. h j (omega arith))) (h n (omega arith))
 
+-- ---- The refusal of a fault, as `map_err` makes it
+
+pub refused_is : (refusal : Fault → Refusal) (t : Result (Unit {0}) Fault) (r : Result (Unit {0}) Refusal) →
+    MatchResult t (λ u. r ≡ Ok u) (λ fault. IsErrAnd r (λ why. why ≡ refusal fault)) → r ≡ refused_as refusal t
+refused_is refusal (Ok tt) r h = h
+refused_is refusal (Err fault) (Ok tt) h = absurd h
+refused_is refusal (Err fault) (Err why) h = ap Err h
+
 -- ---- What has passed lies within its limits, and so is no larger than they are
 
-passed_test : (test : Bool) (why : Refusal) (c : Check) → cond test (Failed why) c ≡ Passed → (test ≡ false) × (c ≡ Passed)
-passed_test true why c e = let z : ◌≡◌ {A = ℕ} 0 1 = cc in absurd (omega arith)
-passed_test false why c e = (refl, e)
+passed_test : (refusal : Fault → Refusal) (test : Bool) (fault : Fault) (c : Result (Unit {0}) Fault) → refused_as refusal (cond test (Err fault) c) ≡ Ok tt →
+    (test ≡ false) × (refused_as refusal c ≡ Ok tt)
+passed_test refusal true fault c e = cc
+passed_test refusal false fault c e = (refl, e)
 
-module _ (test : Test) (k c : ℕ) (lo hi v : ℤ) where
-  pub passed-within : tested test k c lo hi v ≡ Passed → (lo ≼ v) × (v ≼ hi)
+module _ (refusal : Fault → Refusal) (k c : ℕ) (lo hi v : ℤ) where
+  pub passed-within : refused_as refusal (tested k c lo hi v) ≡ Ok tt → (lo ≼ v) × (v ≼ hi)
   unfolding tested
   passed-within e =
-      let l = passed_test (lt_z v lo) _ _ e in
-      let h = passed_test (lt_z hi v) _ _ l.1 in
+      let l = passed_test refusal (lt_z v lo) _ _ e in
+      let h = passed_test refusal (lt_z hi v) _ _ l.1 in
       omega (arith, order)
 
-  pub within-passed : (lo ≼ v) × (v ≼ hi) → tested test k c lo hi v ≡ Passed
+  pub within-passed : (lo ≼ v) × (v ≼ hi) → refused_as refusal (tested k c lo hi v) ≡ Ok tt
   unfolding tested
   within-passed h = rw (not_less v lo h.0, not_less hi v h.1)
 
-  passed-size : {B : ℕ} → nat_abs lo ≤ B → nat_abs hi ≤ B → tested test k c lo hi v ≡ Passed → nat_abs v ≤ B
+  passed-size : {B : ℕ} → nat_abs lo ≤ B → nat_abs hi ≤ B → refused_as refusal (tested k c lo hi v) ≡ Ok tt → nat_abs v ≤ B
   passed-size l h e = range_size lo hi v l h (not_outside lo hi v (passed-within e))
 
-pub state-size : (k i : ℕ) (S lo hi v : ℤ) {B : ℕ} → nat_abs lo ≤ B → nat_abs hi ≤ B → state_check k i S lo hi v ≡ Passed → nat_abs v ≤ B
+pub state-size : (k i : ℕ) (S lo hi v : ℤ) {B : ℕ} → nat_abs lo ≤ B → nat_abs hi ≤ B → state_check k i S lo hi v ≡ Ok tt → nat_abs v ≤ B
 unfolding state_check
-state-size k i S lo hi v l h e = passed-size Limits k i lo hi v l h (both_passed (meets k i S v) (limits k i lo hi v) e).1
+state-size k i S lo hi v l h e = passed-size OverLimit k i lo hi v l h (both_passed (meets k i S v) (limits k i lo hi v) e).1
 
 -- ---- What the two loops of a step test
 
 -- place j of the inputs, and place i of the states, of step k
-abbrev pub input_check_at : List ℤ → List ℤ → List ℤ → ℕ → ℕ → ℕ → ℕ → Check
+abbrev pub input_check_at : List ℤ → List ℤ → List ℤ → ℕ → ℕ → ℕ → ℕ → Result (Unit {0}) Refusal
 input_check_at low high plan from n k j = limits k (n + j) (at low (10 * k + j)) (at high (10 * k + j)) (at plan (from + j))
 
-abbrev pub state_check_at : List ℤ → List ℤ → List ℤ → List ℤ → List ℤ → List ℤ → List ℤ → List ℤ → ℕ → ℕ → ℕ → Check
+abbrev pub state_check_at : List ℤ → List ℤ → List ℤ → List ℤ → List ℤ → List ℤ → List ℤ → List ℤ → ℕ → ℕ → ℕ → Result (Unit {0}) Refusal
 state_check_at a b drift start low high plan v from k i =
     state_check k i (model_at a b drift start v k i) (at low (10 * k + (4 + i))) (at high (10 * k + (4 + i))) (at plan (from + i))
 
 -- all of them, for a tape and a plan l
-abbrev pub inputs_check : Tape → List ℤ → List ℤ → List ℤ → ℕ → Check
+abbrev pub inputs_check : Tape → List ℤ → List ℤ → List ℤ → ℕ → Result (Unit {0}) Refusal
 inputs_check t low high l k = first t.m (input_check_at low high l (k * (t.n + t.m)) t.n k)
 
-abbrev pub states_check : Tape → List ℤ → List ℤ → List ℤ → List ℤ → ℕ → Check
+abbrev pub states_check : Tape → List ℤ → List ℤ → List ℤ → List ℤ → ℕ → Result (Unit {0}) Refusal
 states_check t low high l w k = first t.n (state_check_at t.a t.b t.drift t.start low high l w (k * (t.n + t.m) + t.m) k)
 
 -- the tests by the tables are the tape's
@@ -118,19 +125,19 @@ module _ {t : Tape} {penalty low high reference : List ℤ} (legal : Legal t) (t
   inputs_checked =
       first_cong t.m _ _ (λ j h. ap (λ (a : Term). limits k (t.n + j) a.low a.high ((plan_of t.n t.m l).u k j)) (sym (terms.input k j early h)))
 
-  pub step-failed : {why : Refusal} → inputs_check t low high l k ≡ Failed why → step_check (problem_of t) (plan_of t.n t.m l) k ≡ Failed why
+  pub step-failed : {why : Refusal} → inputs_check t low high l k ≡ Err why → step_check (problem_of t) (plan_of t.n t.m l) k ≡ Err why
   unfolding step_check
   step-failed e = ap₂ or_else (inputs_checked ∙ e) refl
 
   -- once the inputs have passed
-  module _ {v w : List ℤ} (held : HeldPlan t.n t.m k (plan_of t.n t.m l) v) (passed : inputs_check t low high l k ≡ Passed)
+  module _ {v w : List ℤ} (held : HeldPlan t.n t.m k (plan_of t.n t.m l) v) (passed : inputs_check t low high l k ≡ Ok tt)
       (inputs : Stretch (10 * k) t.m ((plan_of t.n t.m l).u k) v w) where
     pub inputs-bounded : Bounded most_number w
     inputs-bounded =
         stretch_bounded held.bounded
         (λ j h. let p = 10 * k + j in
         let g = terms.tables.each p (omega arith) in
-        passed-size Limits k (t.n + j) (at low p) (at high p) ((plan_of t.n t.m l).u k j) g.low g.high (first-each t.m _ passed j h))
+        passed-size OverLimit k (t.n + j) (at low p) (at high p) ((plan_of t.n t.m l).u k j) g.low g.high (first-each t.m _ passed j h))
         inputs
 
     state_checked : (i : ℕ) → i < t.n →
@@ -148,9 +155,9 @@ module _ {t : Tape} {penalty low high reference : List ℤ} (legal : Legal t) (t
     unfolding step_check
     step-states = ap₂ or_else (inputs_checked ∙ passed) (first_cong t.n _ _ state_checked)
 
-    pub held_where : (z : List ℤ) (r : Check) → r ≡ states_check t low high l w k →
-        FilledWhenPassed r (10 * k + 4) t.n (λ i. at l (k * (t.n + t.m) + t.m + i)) w z → HeldWhenPassed r t.n t.m (k + 1) (plan_of t.n t.m l) z
-    held_where z Passed e states =
+    pub held_where : (z : List ℤ) (r : Result (Unit {0}) Refusal) → r ≡ states_check t low high l w k →
+        OnOk r (Stretch (10 * k + 4) t.n (λ i. at l (k * (t.n + t.m) + t.m + i)) w z) → OnOk r (HeldPlan t.n t.m (k + 1) (plan_of t.n t.m l) z)
+    held_where z (Ok tt) e states =
         held_next (legal.states.1, legal.inputs.1) held inputs
         (stretch_cong states (λ i h. let e : k * (t.n + t.m) + t.m + i ≡ k * (t.n + t.m) + (t.m + i) = omega arith in ap (at l) e))
         (stretch_bounded inputs-bounded
@@ -158,4 +165,4 @@ module _ {t : Tape} {penalty low high reference : List ℤ} (legal : Legal t) (t
         let g = terms.tables.each p (omega arith) in
         state-size k i _ (at low p) (at high p) (at l (k * (t.n + t.m) + t.m + i)) g.low g.high (first-each t.n _ (sym e) i h))
         states)
-    held_where z (Failed why) e states = tt
+    held_where z (Err why) e states = tt

@@ -1,3 +1,2 @@
 -- The definitions that promises cite.
 pub mod Checks
-pub mod Held

@@ -5,8 +5,11 @@ use mathlib.Core.List.{List}
 use native.Mathlib.Omega.{arith}
 use native.Mathlib.Nat.{le_trans, mul-le-mul_right}
 use lib.ListN.{length, set}
-use lib.IntN.{ℤ, nat_abs, ◌+ℤ◌, ◌-ℤ◌, ◌*ℤ◌}
+use lib.IntN.{ℤ, nat_abs, ◌+ℤ◌}
 use lib.Signed.{mag}
+use mir.Syntax.{w64}
+use mir.Val.{SFits}
+use mir.Facts.{to_z-of_z}
 use Rattle.integer.specs.Places.{at, Stretch}
 use Rattle.integer.specs.Sum.{sum}
 use Rattle.integer.proofs.Sizes.{called, back, element_is, Formed}
@@ -55,10 +58,9 @@ pub stretch_stored : {o w p : ℕ} {f : ℕ → ℤ} {old new : List ℤ} {v : �
 stretch_stored {o} {w} {p} {f} {old} {new} {v} q h s e =
     subst (λ (p : ℕ). Stretch o (w + 1) f old (set new p v)) q (stretch_store o w f old new v (omega arith) s e)
 
--- a call gave the slope r, and `number_at` the number x for it as it is read back
-pub number_is : (table : List ℤ) (p : ℕ) {r s x : ℤ} → mag r < 2 ^ 63 → r ≡ s → mag x < 2 ^ 63 → x ≡ number_at table p (back r) →
-    back x ≡ number_at table p s
-number_is table p {r} {x = x} rok e xok d = called x xok ∙ d ∙ ap (number_at table p) (called r rok ∙ e)
+-- `number_at` gave the number x for the slope s
+pub number_is : (table : List ℤ) (p : ℕ) {s x : ℤ} → SFits w64 s → mag x < 2 ^ 63 → x ≡ number_at table p (back s) → back x ≡ number_at table p s
+number_is table p {x = x} fits ok d = called x ok ∙ d ∙ ap (number_at table p) (to_z-of_z fits)
 
 module _ {table : List ℤ} (rows : Rows table) where
   size_number : (p : ℕ) → p < 120 → (s : ℤ) → nat_abs (number_at table p s) ≤ most_number
@@ -68,9 +70,7 @@ module _ {table : List ℤ} (rows : Rows table) where
   unfolding cost
   size_number_cost p h s = size-cost (near (rows.ranged p h) (number_at table p s) (size_number p h s))
 
-  -- ---- A turn of the loop at place p, where `number_at` gave x
-
-  -- what `cost_of` asks
+  -- what `cost_of` asks, where `number_at` gave x
   pub cost_asks : (p : ℕ) → p < 120 → (s : ℤ) {x : ℤ} → x ≡ number_at table p s →
       (nat_abs (back (at table (7 * p))) ≤ most_penalty) × (nat_abs (back (at table (7 * p + 3))) ≤ most_number) × (nat_abs x ≤ most_number)
   cost_asks p h s e =
@@ -80,15 +80,12 @@ module _ {table : List ℤ} (rows : Rows table) where
         rw e (size_number p h s),
       )
 
-  -- the total of the places before the n-th, and what `cost_of` gave for that one
-  pub cost_added : (m : ℕ) (place : ℕ → ℕ) (slope : ℕ → ℤ) {n : ℕ} {total r x : ℤ} → m * most_cost < 2 ^ 63 →
+  -- the total of the places before the n-th, and what `put_number` gave for that one
+  pub cost_added : (m : ℕ) (place : ℕ → ℕ) (slope : ℕ → ℤ) {n : ℕ} {total r : ℤ} → m * most_cost < 2 ^ 63 →
       ((j : ℕ) → j < m → place j < 120) → n < m → total ≡ sum n (λ j. number_cost table (place j) (slope j)) → mag r < 2 ^ 63 →
-      r ≡ back (at table (7 * place n)) *ℤ ((x -ℤ back (at table (7 * place n + 3))) *ℤ (x -ℤ back (at table (7 * place n + 3)))) →
-      x ≡ number_at table (place n) (slope n) → Formed (total +ℤ back r) (sum (n + 1) (λ j. number_cost table (place j) (slope j)))
-  unfolding cost
-  cost_added m place slope {n} most room less total ok e d =
-      call_added m _ (λ j h. size_number_cost (place j) (room j h) (slope j)) most less total ok
-      (e ∙ rw (element_is rows.bounded (omega arith) (7 * place n), element_is rows.bounded (omega arith) (7 * place n + 3), d))
+      r ≡ number_cost table (place n) (slope n) → Formed (total +ℤ back r) (sum (n + 1) (λ j. number_cost table (place j) (slope j)))
+  cost_added m place slope most room less total ok e =
+      call_added m _ (λ j h. size_number_cost (place j) (room j h) (slope j)) most less total ok e
 
   -- ---- How large the sums are
 

@@ -1,10 +1,11 @@
 // Step 2 of a round: the slopes, the minimisers and their costs in one pass.
-ghost use Rattle.std.specs.Prelude.{◌+◌, ◌*◌, ◌<◌, ◌≤◌, ◌≡◌, length, replicate, pos};
+ghost use Rattle.std.specs.Prelude.{◌+◌, ◌*◌, ◌<◌, ◌≤◌, ◌≡◌, length, replicate, set, pos, nat_abs};
 ghost use Rattle.integer.specs.Places.{Bounded, Stretch, Steps};
 ghost use Rattle.integer.specs.Sum.{sum};
 ghost use Rattle.commands.specs.Ranges.{most_entry, most_multiplier};
 ghost use Rattle.problem.specs.Cost.{cost};
-ghost use Rattle.dual.specs.Slopes.{by_place};
+ghost use Rattle.dual.specs.Slopes.{by_place, most_slope};
+ghost use Rattle.steps.specs.Steps.{minimiser};
 ghost use Rattle.lookup.specs.Table.{term_in, Rows};
 ghost use Rattle.lookup.specs.Numbers.{input_number, state_number};
 
@@ -12,7 +13,19 @@ use crate::table::number_at;
 use dual::slopes::{input_slope_at, state_slope_at};
 use primal::cost::cost_of;
 
-// Stores the inputs of step k; their cost.
+// Stores the number that slope s gives at place p; its cost.
+fn put_number(v: &mut [i64; 120], table: &[i64; 840], p: usize, s: i64) -> i64
+    requires { (p < 120) × (length v.old ≡ 120) × Rows table.now × (nat_abs s ≤ most_slope) }
+    ensures stored { v.new ≡ set v.old p (minimiser (term_in table.now p) s) }
+    ensures value { result ≡ cost (term_in table.now p) (minimiser (term_in table.now p) s) }
+{
+    let x = number_at(table, p, s);
+    v[p] = x;
+    cost_of(table[7 * p], table[7 * p + 3], x)
+}
+
+// Stores the inputs of step k; their cost. This and `state_numbers` share `put_number` and no loop: one
+// over a closure for the slope is no plainer, since its contract has to say what each call returns.
 fn input_numbers(
     v: &mut [i64; 120],
     table: &[i64; 840],
@@ -25,13 +38,8 @@ fn input_numbers(
     ensures value { result ≡ sum 4 (λ j. cost (term_in table.now (10 * k + j)) (input_number table.now b.now y.now k j)) }
 {
     let mut total: i64 = 0;
-    let mut j: usize = 0;
-    while j < 4 {
-        let p = 10 * k + j;
-        let x = number_at(table, p, input_slope_at(b, y, k, j));
-        v[p] = x;
-        total += cost_of(table[7 * p], table[7 * p + 3], x);
-        j += 1;
+    for j in 0..4 {
+        total += put_number(v, table, 10 * k + j, input_slope_at(b, y, k, j));
     }
     total
 }
@@ -50,13 +58,13 @@ fn state_numbers(
     ensures value { result ≡ sum 6 (λ i. cost (term_in table.now (10 * k + (4 + i))) (state_number horizon table.now a.now y.now k i)) }
 {
     let mut total: i64 = 0;
-    let mut i: usize = 0;
-    while i < 6 {
-        let p = 10 * k + (4 + i);
-        let x = number_at(table, p, state_slope_at(a, y, k, i, horizon));
-        v[p] = x;
-        total += cost_of(table[7 * p], table[7 * p + 3], x);
-        i += 1;
+    for i in 0..6 {
+        total += put_number(
+            v,
+            table,
+            10 * k + (4 + i),
+            state_slope_at(a, y, k, i, horizon),
+        );
     }
     total
 }
@@ -85,11 +93,9 @@ pub fn minimise<'a>(
 {
     let mut inputs: i64 = 0;
     let mut states: i64 = 0;
-    let mut k: usize = 0;
-    while k < horizon {
+    for k in 0..horizon {
         inputs += input_numbers(v, table, b, y, k);
         states += state_numbers(v, table, a, y, k, horizon);
-        k += 1;
     }
     Costs {
         inputs: inputs,

@@ -50,10 +50,8 @@ fn put_row(table: &mut [i64; 840], row: &[i64; 7], p: usize)
     requires { (p < 120) × (length table.old ≡ 840) }
     ensures { Stretch (7 * p) 7 (at row.now) table.old table.new }
 {
-    let mut j: usize = 0;
-    while j < 7 {
+    for j in 0..7 {
         table[7 * p + j] = row[j];
-        j += 1;
     }
 }
 
@@ -68,11 +66,9 @@ pub fn table_of<'a>(
     ensures { RowsOf penalty.now low.now high.now reference.now result }
 {
     let mut table = [0i64; 840];
-    let mut p: usize = 0;
-    while p < 120 {
+    for p in 0..120 {
         let row = row_of(penalty[p], low[p], high[p], reference[p]);
         put_row(&mut table, &row, p);
-        p += 1;
     }
     table
 }

@@ -9,6 +9,7 @@ ghost use Rattle.words.specs.Words.{Holds, HoldAll, bit_of};
 ghost use Rattle.marks.specs.Missing.{missing};
 
 use commands::mark::{COLUMN_PLACE, PLACE_COUNT, REFERENCE_PLACE, ROUNDS_PLACE, START_PLACE};
+use std::array;
 use words::{WORD_COUNT, below, missing_ones, ones, pack};
 
 // `count` places from p on.
@@ -32,13 +33,7 @@ fn with_span(words: &[u64; WORD_COUNT], p: usize, count: usize) -> [u64; WORD_CO
     requires { p + count < 2 ^ 64 }
     ensures { HoldAll result (λ i. bit_of words.now i || among p count (column_place + i)) }
 {
-    let mut with = [0u64; WORD_COUNT];
-    let mut w = 0;
-    while w < WORD_COUNT {
-        with[w] = words[w] | span(COLUMN_PLACE + 64 * w, p, count);
-        w += 1;
-    }
-    with
+    array::from_fn(|w| words[w] | span(COLUMN_PLACE + 64 * w, p, count))
 }
 
 fn required_words(
@@ -54,12 +49,10 @@ fn required_words(
     let columns = with_span(&none, COLUMN_PLACE, n + m);
     let starts = with_span(&columns, START_PLACE, n);
     let mut words = with_span(&starts, ROUNDS_PLACE, 1);
-    let mut column = 0;
-    while column < n + m {
+    for column in 0..n + m {
         if is_curved(column, horizon, given) {
             words = with_span(&words, REFERENCE_PLACE + 12 * column, horizon);
         }
-        column += 1;
     }
     words
 }
@@ -67,13 +60,7 @@ fn required_words(
 fn mark_words(given: &[bool; PLACE_COUNT]) -> [u64; WORD_COUNT]
     ensures { HoldAll result (λ i. marked given.now (column_place + i)) }
 {
-    let mut words = [0u64; WORD_COUNT];
-    let mut w = 0;
-    while w < WORD_COUNT {
-        words[w] = pack(given, COLUMN_PLACE + 64 * w, 64);
-        w += 1;
-    }
-    words
+    array::from_fn(|w| pack(given, COLUMN_PLACE + 64 * w, 64))
 }
 
 // How many required places have no mark.

@@ -3,40 +3,20 @@
 
 ghost use Rattle.std.specs.Prelude.{◌+◌, ◌^◌, ◌<◌};
 
-use cases::{Case, size_at};
+use cases::{Case, each_case, size_at};
 use commands::mark::{COLUMN_PLACE, PLACE_COUNT};
-use integer::bytes::u8_at;
 use marks::count_missing;
 use std::io;
-use std::io::Read;
 use words::{WORD_COUNT, missing_ones};
 
 fn main(rt: HostRuntime) -> io::Result<()> {
-    let mut text = Vec::new(rt.alloc());
-    rt.reader().read_to_end(&mut text)?;
-    run(&rt, &text)
-}
-
-fn run(rt: &impl Print, text: &[u8]) -> io::Result<()> {
-    let mut case = Case::new();
-    for c in text {
-        if *c == b'\n' {
-            show(rt, case.closed())?;
-            case = Case::new();
-        } else {
-            case = case.next(*c);
-        }
-    }
-    Ok(())
+    each_case(&rt, |case| show(&rt, case))
 }
 
 fn show(rt: &impl Print, case: Case) -> io::Result<()> {
-    let kind = case.kind;
-    let bytes = case.tape;
-    let sizes = case.first;
-    match kind {
-        b'c' => show_count(rt, &bytes),
-        b'i' => show_missing(rt, &bytes, &sizes),
+    match case.word() {
+        b"count" => show_count(rt, &case.tape),
+        b"missing" => show_missing(rt, &case.tape, &case.first),
         _ => Ok(()),
     }
 }
@@ -72,10 +52,7 @@ fn word_at(bytes: &[u8], at: usize) -> u64
 
 // 0 past the end.
 fn byte_at(bytes: &[u8], at: usize) -> u64 {
-    if bytes.len() <= at {
-        return 0;
-    }
-    u8_at(bytes, at) as u64
+    bytes.get(at).map_or(0, |byte| *byte as u64)
 }
 
 // n, m and N.

@@ -1,21 +1,18 @@
 -- Commands written one behind the other.
-use Prim.Native.Nat.{ℕ, suc, ◌+◌, ◌-◌, ◌*◌, ◌<◌}
+use Prim.Native.Nat.{ℕ, suc, ◌+◌, ◌*◌, ◌<◌}
 use mathlib.Core.Path.{◌≡◌, refl, sym, ap, ◌∙◌}
 use mathlib.Core.List.{List, [], ◌∷◌, ◌++◌, append_assoc, append-nil}
 use native.Mathlib.Omega.{arith}
 use native.Mathlib.Nat.{add-zero}
 use native.Mathlib.Numerals.{add-one}
-use lib.ListN.{length, get_or, take, drop, length-append, length-drop, drop_of_length-le}
-use lib.Seq.{take-suc, take_at, length-take-le}
+use lib.ListN.{length, get_or, take, length-append}
+use lib.Seq.{take-suc, length-take-le}
 use lib.IntN.{ℤ}
 use lib.Ieee.{Float, nan}
-use borrow.Rule.Slice.PartMut.{put_mid}
 use Rattle.integer.specs.Encoding.{complement}
 use Rattle.integer.proofs.Encoding.{bytes_length}
 use Rattle.import.specs.Entries.{imported}
 use Rattle.models.specs.Models.{number_in, command, commands_from}
-
--- ---- Commands
 
 pub command-length : (byte columns place : ℕ) (k : ℤ) → length (command byte columns place k) ≡ 5
 unfolding command
@@ -52,11 +49,3 @@ commands_next byte columns l i h =
     ∙ commands_append byte columns 0 (take i l) (get_or l i nan ∷ [])
     ∙ ap (λ (n : ℕ). commands_from byte columns 0 (take i l) ++ commands_from byte columns n (get_or l i nan ∷ [])) z
     ∙ ap (λ (z : List ℕ). commands_from byte columns 0 (take i l) ++ z) (one_command byte columns i (get_or l i nan))
-
--- ---- Two parts that fill a list
-
-pub two_parts : {X : Type 0} (A : ℕ) (out P Q : List X) → length P ≡ A → put_mid A (length (P ++ drop A out) - A) (P ++ drop A out) Q ≡ P ++ Q
-two_parts A out P Q p =
-    let w = P ++ drop A out in
-    let d : drop (length w - A) (drop A w) ≡ [] = drop_of_length-le (drop A w) {i = length w - A} (omega (arith, length-drop A w)) in
-    rw (take_at P (drop A out) A p, d, append-nil Q)

@@ -12,6 +12,7 @@ use lib.Seq.{drop-cons}
 use lib.Ieee.{Float, nan}
 use borrow.Author.Tests.{ltb-false}
 use Rattle.integer.proofs.Tests.{none, by_test}
+use Rattle.std.specs.Prelude.{Result, Ok, Err}
 use Rattle.commands.specs.Format.{wrong_size}
 use Rattle.tape.specs.declared.refusal.Refusal.{Refusal}
 use Rattle.tape.specs.declared.refusal.Refusal.TheVariants as refusal
@@ -19,10 +20,9 @@ use Rattle.tape.specs.Refusals.{row, figure}
 use Rattle.import.specs.Entries.{number, imported}
 use Rattle.models.specs.Models.{wrong_length, verdict, first, tested, model_answer, number_in}
 use Rattle.import.specs.declared.Entry.{Entry}
-use Rattle.import.specs.declared.Entry.TheVariants.{Whole, Near, NotFinite, TooLarge}
-use Rattle.models.specs.declared.Model.{Model}
-use Rattle.models.specs.declared.Model.TheVariants.{Written, Refused}
-use Rattle.models.proofs.Number.{not_written, number_in_lem}
+use Rattle.import.specs.declared.ImportError.{ImportError}
+use Rattle.import.specs.declared.ImportError.TheVariants.{NotFinite, TooLarge}
+use Rattle.models.proofs.Number.{number_in_lem}
 
 -- ---- One entry further
 
@@ -33,18 +33,18 @@ tested-step count i l h =
     let e : suc (count + i) ≡ count + (i + 1) = omega arith in
     rw (drop-cons l i nan h, ← e, add-one i)
 
-pub tested-none : (count : ℕ) (l : List Float) (i : ℕ) → length l ≤ i → Written ≡ tested count (drop i l)
+pub tested-none : (count : ℕ) (l : List Float) (i : ℕ) → length l ≤ i → Ok tt ≡ tested count (drop i l)
 unfolding tested
 tested-none count l i h = rw (drop_of_length-le l h)
 
 -- ---- A model that is not refused
 
-first_written : (v w : Model) → first v w ≡ Written → (v ≡ Written) × (w ≡ Written)
-first_written Written w e = (refl, e)
-first_written (Refused why) w e = absurd (not_written why e)
+first_written : (v w : Result (Unit {0}) Refusal) → first v w ≡ Ok tt → (v ≡ Ok tt) × (w ≡ Ok tt)
+first_written (Ok tt) w e = (refl, e)
+first_written (Err why) w e = absurd cc
 
-passed_by : (test : Bool) (why : Refusal) (v : Model) → cond test (Refused why) v ≡ Written → (test ≡ false) × (v ≡ Written)
-passed_by true why v e = absurd (not_written why e)
+passed_by : (test : Bool) (why : Refusal) (v : Result (Unit {0}) Refusal) → cond test (Err why) v ≡ Ok tt → (test ≡ false) × (v ≡ Ok tt)
+passed_by true why v e = absurd cc
 passed_by false why v e = (refl, e)
 
 equal : (a b : ℕ) → not (eqb a b) ≡ false → a ≡ b
@@ -55,7 +55,7 @@ equal a b e = eqb→eq a b (go (eqb a b) e)
     go false e = absurd (true≢false e)
 
 -- its entries have their numbers
-pub number_at : (count : ℕ) (l : List Float) → tested count l ≡ Written → (i : ℕ) → i < length l → number_in (imported (get_or l i nan)) ≡ number (get_or l i nan)
+pub number_at : (count : ℕ) (l : List Float) → tested count l ≡ Ok tt → (i : ℕ) → i < length l → number_in (imported (get_or l i nan)) ≡ number (get_or l i nan)
 unfolding tested
 number_at count [] e i h = absurd (not-suc-le-zero h)
 number_at count (a ∷ l) e zero h = number_in_lem count a (first_written (verdict count (imported a)) (tested (suc count) l) e).0
@@ -81,12 +81,12 @@ right_lengths n m a b out e =
 -- ---- The answer by its tests
 
 module _ (n m : ℕ) (a b : List Float) (out : ℕ) where
-  pub size-refused : wrong_size n m 1 ≡ true → Refused refusal.ArgumentOutOfRange ≡ model_answer n m a b out
+  pub size-refused : wrong_size n m 1 ≡ true → Err refusal.ArgumentOutOfRange ≡ model_answer n m a b out
   unfolding model_answer
   size-refused e = rw e
 
   module _ (e : wrong_size n m 1 ≡ false) where
-    pub length-refused : wrong_length n m (length a) (length b) out ≡ true → Refused refusal.Length ≡ model_answer n m a b out
+    pub length-refused : wrong_length n m (length a) (length b) out ≡ true → Err refusal.Length ≡ model_answer n m a b out
     unfolding model_answer
     length-refused f = rw (e, f)
 
@@ -104,34 +104,33 @@ module _ (n m : ℕ) (a b : List Float) (out : ℕ) where
 pub record Ready (n m : ℕ) (a b : List Float) (out : ℕ) : Type 0 where
   pub sizes : (1 ≤ n) × (n ≤ 6) × (1 ≤ m) × (m ≤ 4)
   pub lengths : (length a ≡ n * n) × (length b ≡ n * m) × (out ≡ 5 * (n * n + n * m))
-  pub states : tested 0 a ≡ Written
-  pub inputs : tested (length a) b ≡ Written
+  pub states : tested 0 a ≡ Ok tt
+  pub inputs : tested (length a) b ≡ Ok tt
 
-pub ready : (n m : ℕ) (a b : List Float) (out : ℕ) → model_answer n m a b out ≡ Written → Ready n m a b out
+pub ready : (n m : ℕ) (a b : List Float) (out : ℕ) → model_answer n m a b out ≡ Ok tt → Ready n m a b out
 unfolding model_answer
 ready n m a b out e =
     let entries = first (tested 0 a) (tested (length a) b) in
     let wrong = wrong_length n m (length a) (length b) out in
-    let p = passed_by (wrong_size n m 1) refusal.ArgumentOutOfRange (cond wrong (Refused refusal.Length) entries) e in
+    let p = passed_by (wrong_size n m 1) refusal.ArgumentOutOfRange (cond wrong (Err refusal.Length) entries) e in
     let q = passed_by wrong refusal.Length entries p.1 in
     let r = first_written (tested 0 a) (tested (length a) b) q.1 in
     record { sizes = right_size n m p.0; lengths = right_lengths n m (length a) (length b) out q.0; states = r.0; inputs = r.1 }
 
 -- ---- What a refusal carries is the count of one of 60 entries at most, or nothing
 
-abbrev pub Counted : ℕ → Model → Type 0
-Counted most Written = Unit {0}
-Counted most (Refused why) = figure (row why).carries ≤ most
+abbrev pub Counted : ℕ → Result (Unit {0}) Refusal → Type 0
+Counted most (Ok tt) = Unit {0}
+Counted most (Err why) = figure (row why).carries ≤ most
 
-verdict_counted : (most count : ℕ) (r : Entry) → count ≤ most → Counted most (verdict count r)
-verdict_counted most count (Whole k) h = tt
-verdict_counted most count (Near k leftover) h = tt
-verdict_counted most count NotFinite h = h
-verdict_counted most count TooLarge h = h
+verdict_counted : (most count : ℕ) (r : Result Entry ImportError) → count ≤ most → Counted most (verdict count r)
+verdict_counted most count (Ok entry) h = tt
+verdict_counted most count (Err NotFinite) h = h
+verdict_counted most count (Err TooLarge) h = h
 
-first_counted : (most : ℕ) (v w : Model) → Counted most v → Counted most w → Counted most (first v w)
-first_counted most Written w h k = k
-first_counted most (Refused why) w h k = h
+first_counted : (most : ℕ) (v w : Result (Unit {0}) Refusal) → Counted most v → Counted most w → Counted most (first v w)
+first_counted most (Ok tt) w h k = k
+first_counted most (Err why) w h k = h
 
 tested_counted : (most count : ℕ) (l : List Float) → count + length l ≤ most → Counted most (tested count l)
 unfolding tested

@@ -7,44 +7,32 @@ ghost use Rattle.import.specs.Entries.{imported};
 ghost use Rattle.models.specs.Models.{wrong_length, verdict, tested, model_answer, number_in, commands_from, model_left, ReadBack};
 
 use commands::is_wrong_size;
-use import::{Entry, import_entry};
+use import::{Entry, ImportError, import_entry};
 use integer::bytes::{twos_complement, write_unsigned};
 use tape::refusal::Refusal;
 
-#[derive(Clone, Copy)]
-pub enum Model {
-    Written,
-    Refused(Refusal),
-}
-
 // Every entry is tested before the first is written, so that a refusal leaves the output as it was.
-pub fn import_model(n: usize, m: usize, a: &[f64], b: &[f64], out: &mut [u8]) -> Model
+pub fn import_model(n: usize, m: usize, a: &[f64], b: &[f64], out: &mut [u8]) -> Result<(), Refusal>
     ensures value { result ≡ model_answer n m a.now b.now (length out.old) }
     ensures out_after { out.new ≡ model_left result n m a.now b.now out.old }
     ensures read_back { ReadBack result n m a.now b.now out.new }
 {
-    let answer = test_model(n, m, a, b, out.len());
-    if let Model::Refused(why) = answer {
-        return Model::Refused(why);
-    }
+    test_model(n, m, a, b, out.len())?;
     write_model(n, m, a, b, out);
-    Model::Written
+    Ok(())
 }
 
 // N is 1 here: any legal one serves to test the other two sizes.
-fn test_model(n: usize, m: usize, a: &[f64], b: &[f64], out: usize) -> Model
+fn test_model(n: usize, m: usize, a: &[f64], b: &[f64], out: usize) -> Result<(), Refusal>
     ensures { result ≡ model_answer n m a.now b.now out }
 {
     if is_wrong_size(n, m, 1) {
-        return Model::Refused(Refusal::ArgumentOutOfRange);
+        return Err(Refusal::ArgumentOutOfRange);
     }
     if is_wrong_length(n, m, a.len(), b.len(), out) {
-        return Model::Refused(Refusal::Length);
+        return Err(Refusal::Length);
     }
-    let first = test_entries(a, 0);
-    if let Model::Refused(why) = first {
-        return Model::Refused(why);
-    }
+    test_entries(a, 0)?;
     test_entries(b, a.len())
 }
 
@@ -54,39 +42,27 @@ fn is_wrong_length(n: usize, m: usize, a: usize, b: usize, out: usize) -> bool
 {
     let states = n * n;
     let inputs = n * m;
-    if a != states {
-        return true;
-    }
-    if b != inputs {
-        return true;
-    }
-    out != 5 * (states + inputs)
+    a != states || b != inputs || out != 5 * (states + inputs)
 }
 
 // The first refusal among entries whose counts start at `count`.
-fn test_entries(entries: &[f64], count: usize) -> Model
+fn test_entries(entries: &[f64], count: usize) -> Result<(), Refusal>
     requires { count + length entries.now ≤ 60 }
     ensures { result ≡ tested count entries.now }
 {
-    let mut i: usize = 0;
-    while i < entries.len() {
-        let answer = verdict(import_entry(entries[i]), count + i);
-        if let Model::Refused(why) = answer {
-            return Model::Refused(why);
-        }
-        i += 1;
+    for (i, entry) in entries.iter().enumerate() {
+        test_entry(*entry, count + i)?;
     }
-    Model::Written
+    Ok(())
 }
 
-fn verdict(entry: Entry, count: usize) -> Model
-    ensures { result ≡ verdict count entry }
+fn test_entry(entry: f64, count: usize) -> Result<(), Refusal>
+    ensures { result ≡ verdict count (imported entry) }
 {
-    match entry {
-        Entry::Whole(_) => Model::Written,
-        Entry::Near(_, _) => Model::Written,
-        Entry::NotFinite => Model::Refused(Refusal::NotFinite(count)),
-        Entry::TooLarge => Model::Refused(Refusal::TooLarge(count)),
+    match import_entry(entry) {
+        Ok(_) => Ok(()),
+        Err(ImportError::NotFinite) => Err(Refusal::NotFinite(count)),
+        Err(ImportError::TooLarge) => Err(Refusal::TooLarge(count)),
     }
 }
 
@@ -94,9 +70,9 @@ fn write_model(n: usize, m: usize, a: &[f64], b: &[f64], out: &mut [u8])
     requires { (length out.old ≡ 5 * length a.now + 5 * length b.now) × (length a.now ≤ 36) × (length b.now ≤ 36) × (1 ≤ n) × (1 ≤ m) }
     ensures { out.new ≡ commands_from 0x20 n 0 a.now ++ commands_from 0x21 m 0 b.now }
 {
-    let middle = 5 * a.len();
-    write_commands(&mut out[..middle], a, 0x20, n);
-    write_commands(&mut out[middle..], b, 0x21, m);
+    let (states, inputs) = out.split_at_mut(5 * a.len());
+    write_commands(states, a, 0x20, n);
+    write_commands(inputs, b, 0x21, m);
 }
 
 // A command for each entry of a matrix of so many columns.
@@ -104,26 +80,19 @@ fn write_commands(out: &mut [u8], entries: &[f64], byte: u8, columns: usize)
     requires { (length out.old ≡ 5 * length entries.now) × (length entries.now ≤ 36) × (1 ≤ columns) }
     ensures { out.new ≡ commands_from byte columns 0 entries.now }
 {
-    let mut i: usize = 0;
-    let mut at: usize = 0;
-    while i < entries.len() {
-        let end = at + 5;
-        let number = number_of(entries[i]);
-        write_command(&mut out[at..end], byte, i / columns, i % columns, number);
-        at = end;
-        i += 1;
+    for (i, entry) in entries.iter().enumerate() {
+        let at = 5 * i;
+        let number = number_of(*entry);
+        write_command(&mut out[at..at + 5], byte, i / columns, i % columns, number);
     }
 }
 
 fn number_of(entry: f64) -> i64
     ensures { (result ≡ number_in (imported entry)) × (nat_abs result ≤ 16384) }
 {
-    let imported = import_entry(entry);
-    match imported {
-        Entry::Whole(number) => number,
-        Entry::Near(number, _) => number,
-        Entry::NotFinite => 0,
-        Entry::TooLarge => 0,
+    match import_entry(entry) {
+        Ok(Entry::Whole(number) | Entry::Near(number, _)) => number,
+        Err(_) => 0,
     }
 }
 

@@ -15,11 +15,7 @@ fn put(out: &mut [i64], first: usize, from: &[i64])
     requires { first + length from.now ≤ length out.old }
     ensures { (take (first + length from.now) out.new ≡ take first out.old ++ from.now) × (length out.new ≡ length out.old) }
 {
-    let mut j: usize = 0;
-    while j < from.len() {
-        out[first + j] = from[j];
-        j += 1;
-    }
+    out[first..first + from.len()].copy_from_slice(from);
 }
 
 pub fn numbers_of(t: Tape) -> [i64; 118]
@@ -46,10 +42,7 @@ pub fn numbers_of(t: Tape) -> [i64; 118]
 fn mark_number(given: bool) -> i64
     ensures { result ≡ mark_number given }
 {
-    if given {
-        return 1;
-    }
-    0
+    i64::from(given)
 }
 
 fn mark_numbers(given: &[bool]) -> [i64; 120]
@@ -57,10 +50,8 @@ fn mark_numbers(given: &[bool]) -> [i64; 120]
     ensures { result ≡ map mark_number given.now }
 {
     let mut marks = [0i64; 120];
-    let mut p: usize = 0;
-    while p < 120 {
-        marks[p] = mark_number(given[p]);
-        p += 1;
+    for (p, given) in given.iter().enumerate() {
+        marks[p] = mark_number(*given);
     }
     marks
 }

@@ -78,17 +78,17 @@ module _ {t : Tape} {table a forced start : List ℤ} {n horizon : ℕ} {v : Lis
         (any_cong t.n _ _ (λ i b. sym (ap₂ exceeds (lent.terms k i early_place b) (states_are i b)))))
 
     -- no state is over its limits, and all are stored in z
-    pub step_begun : {r : Bool} {z : List ℤ} {c : ℤ} → r ≡ any n (is_over table a forced start l k) → r ≡ false → Bounded most_number z →
+    pub step_begun : {z : List ℤ} {c : ℤ} → any n (is_over table a forced start l k) ≡ false → Bounded most_number z →
         Stretch (10 * k + 4) n (next_state a forced start l k) l z → c ≡ sum n (state_cost table a forced start l k) →
         Begun t (padded_plan v).u (k + 1) z (total +ℤ c)
-    step_begun e none bounded filled price =
+    step_begun none bounded filled price =
         let stored = rw lent.states at filled in
         let few : (t.n ≤ 6) × (t.m ≤ 4) = (lent.legal.states.1, lent.legal.inputs.1) in
         let given : Stretch (10 * k) t.m ((padded_plan v).u k) l l = record { inside = begun.inputs k; outside = λ p h. refl; same = refl } in
         record {
           held = held_next few begun.held given (stretch_cong stored states_are) bounded;
           inputs = λ q j h. stretch_beside stored (10 * q + j) (λ b. omega (arith, few)) ∙ begun.inputs q j h;
-          kept = any_more k _ begun.kept (sym (step-tested e) ∙ none);
+          kept = any_more k _ begun.kept (sym (step-tested (sym none)));
           cost =
               ap₂ (λ (x y : ℤ). x +ℤ y) begun.cost
               ((rw lent.states at price)

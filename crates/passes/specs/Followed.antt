@@ -1,5 +1,5 @@
 -- What following the model from the inputs of a plan leaves.
-use Rattle.std.specs.Prelude.{ℕ, ◌+◌, ◌*◌, ◌<◌, ◌≡◌, false, List, ℤ, ◌+ℤ◌, ◌*ℤ◌}
+use Rattle.std.specs.Prelude.{ℕ, ◌+◌, ◌*◌, ◌<◌, ◌≡◌, Option, is_none, IfSome, List, ℤ, ◌+ℤ◌, ◌*ℤ◌}
 use Rattle.integer.specs.Places.{at}
 use Rattle.integer.specs.Sum.{sum}
 use Rattle.tape.specs.declared.Tape.{Tape}
@@ -11,7 +11,6 @@ use Rattle.primal.specs.Held.{BlankPlan}
 use Rattle.steps.specs.Steps.{candidate, dropped}
 use Rattle.steps.specs.Held.{InputsWithin, HeldUnless}
 use Rattle.lookup.specs.Table.{term_in}
-use Rattle.passes.specs.declared.followed.Followed.{Followed}
 
 -- the lent arrays are those of the tape t, and of the inputs of v
 pub record Lends (t : Tape) (table a forced start : List ℤ) (n horizon : ℕ) (v : List ℤ) : Type 0 where
@@ -26,7 +25,7 @@ pub record Lends (t : Tape) (table a forced start : List ℤ) (n horizon : ℕ) 
   pub blank : BlankPlan t.n t.m v
 
 -- the candidate with the inputs u: whether it is dropped, and if not the plan l and what its states cost
-pub record FollowedBy (t : Tape) (u : ℕ → ℕ → ℤ) (l : List ℤ) (r : Followed) : Type 0 where
-  pub same : r.dropped ≡ dropped (problem_of t) (candidate (problem_of t) u)
-  pub held : HeldUnless r.dropped t (candidate (problem_of t) u) l
-  pub cost : r.dropped ≡ false → r.cost ≡ sum t.horizon (λ k. sum t.n (λ i. cost ((problem_of t).state_term k i) ((candidate (problem_of t) u).x k i)))
+pub record FollowedBy (t : Tape) (u : ℕ → ℕ → ℤ) (l : List ℤ) (r : Option ℤ) : Type 0 where
+  pub same : is_none r ≡ dropped (problem_of t) (candidate (problem_of t) u)
+  pub held : HeldUnless r t (candidate (problem_of t) u) l
+  pub cost : IfSome r (λ total. total ≡ sum t.horizon (λ k. sum t.n (λ i. cost ((problem_of t).state_term k i) ((candidate (problem_of t) u).x k i))))

@@ -53,12 +53,10 @@ fn ascend_step<'a>(
     ensures value { result ≡ sum 6 (λ i. pull (padded y.now k i) (residual_by a.now forced.now start.now v.now k i)) }
 {
     let mut total: i64 = 0;
-    let mut i: usize = 0;
-    while i < 6 {
+    for i in 0..6 {
         let e = residual_at(a, forced, start, v, k, i);
         next[6 * k + i] = ascended_of(gain, y[6 * k + i], e);
         total += pull_of(y[6 * k + i], e);
-        i += 1;
     }
     total
 }
@@ -82,10 +80,8 @@ pub fn ascend<'a>(
     ensures value { result ≡ sum horizon (λ k. sum 6 (λ i. pull (padded y.now k i) (residual_by a.now forced.now start.now v.now k i))) }
 {
     let mut total: i64 = 0;
-    let mut k: usize = 0;
-    while k < horizon {
+    for k in 0..horizon {
         total += ascend_step(next, a, forced, start, v, y, gain, k);
-        k += 1;
     }
     total
 }

@@ -16,10 +16,8 @@ fn force_step<'a>(
     requires { (k < 12) × (length forced.old ≡ 72) × Bounded most_entry b.now × Bounded most_drift drift.now × Bounded most_number v.now }
     ensures { Stretch (6 * k) 6 (forcing b.now drift.now v.now k) forced.old forced.new }
 {
-    let mut i: usize = 0;
-    while i < 6 {
+    for i in 0..6 {
         forced[6 * k + i] = dot(b, 4 * i, v, 10 * k, 1, 4) + drift[i];
-        i += 1;
     }
 }
 
@@ -34,9 +32,7 @@ pub fn force<'a>(
     requires { (horizon ≤ 12) × (forced.old ≡ replicate 72 (pos 0)) × Bounded most_entry b.now × Bounded most_drift drift.now × Bounded most_number v.now }
     ensures { Steps 6 horizon (forcing b.now drift.now v.now) forced.new }
 {
-    let mut k: usize = 0;
-    while k < horizon {
+    for k in 0..horizon {
         force_step(forced, b, drift, v, k);
-        k += 1;
     }
 }

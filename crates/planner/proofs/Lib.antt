@@ -1,7 +1,6 @@
 -- What the functions' proofs cite.
 pub mod Figures
-pub mod Seen
-pub mod Imported
+pub mod Answered
 pub mod Recorded
 pub mod Reported
 pub mod Ranged

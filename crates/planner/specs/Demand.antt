@@ -1,10 +1,8 @@
 -- Demand 3, and judging again, over what a caller of the exported calls sees: the number returned, and `out`.
-use Rattle.std.specs.Prelude.{ℕ, ◌≡◌, List, ℤ, pos}
+use Rattle.std.specs.Prelude.{ℕ, ◌≡◌, List, ℤ, pos, Ok}
 use Rattle.integer.specs.Order.{◌≼◌}
 use Rattle.integer.specs.Places.{at}
 use Rattle.tape.specs.declared.Tape.{Tape}
-use Rattle.judge.specs.declared.Judged.TheVariants.{Gap}
-use Rattle.judge.specs.declared.Shown.TheVariants.{Shown}
 use Rattle.judge.specs.Demand.{NoneCheaper, NoRival}
 use Rattle.judge.specs.Judging.{judged, shown}
 use Rattle.solver.specs.declared.Duties.{Duties}
@@ -34,7 +32,7 @@ UpheldBy number out t plan y = Says number out (NoneCheaper t plan y (at out 2) 
 
 -- Judging what the solve left gives the gap in `out`, or again shows impossibility.
 abbrev pub AgainBy : ℕ → List ℤ → List ℕ → List ℤ → List ℤ → Type 0
-AgainBy number out s plan y = Says number out (judged s plan y ≡ Gap (at out 2)) (shown s y ≡ Shown)
+AgainBy number out s plan y = Says number out (judged s plan y ≡ Ok (at out 2)) (shown s y ≡ Ok tt)
 
 -- Where the number is 0, the rounds in `out` are at least 1 and at most R.
 pub record RoundsBy (number : ℕ) (out : List ℤ) (R : ℕ) : Type 0 where

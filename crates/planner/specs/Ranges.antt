@@ -1,26 +1,25 @@
 -- The exported call that gives the ranges of the first duties: the number that it returns, what it leaves in `out`, and what that says.
-use Rattle.std.specs.Prelude.{ℕ, ◌+◌, ◌*◌, ◌≡◌, List, [], ◌∷◌, ℤ}
+use Rattle.std.specs.Prelude.{ℕ, ◌+◌, ◌*◌, ◌≡◌, List, [], ◌∷◌, ℤ, Result, Ok, Err}
 use Rattle.integer.specs.Places.{at}
 use Rattle.tape.specs.declared.Tape.{Tape}
+use Rattle.tape.specs.declared.refusal.Refusal.{Refusal}
 use Rattle.numbers.specs.Numbers.{code_of}
 use Rattle.ranges.specs.declared.Ranges.{Ranges}
-use Rattle.ranges.specs.declared.Ranging.{Ranging}
-use Rattle.ranges.specs.declared.Ranging.TheVariants as ranging
 use Rattle.ranges.specs.declared.range.Range.{Range}
 use Rattle.ranges.specs.Ranges.{NearPlan}
 
-abbrev pub ranges_code : Ranging → ℕ
-ranges_code (ranging.Ranges ranges) = 0
-ranges_code (ranging.Refused why) = code_of why
+abbrev pub ranges_code : Result Ranges Refusal → ℕ
+ranges_code (Ok ranges) = 0
+ranges_code (Err why) = code_of why
 
 -- the two ends of input j's first duty at 2j and 2j + 1
 abbrev pub ends_of : Ranges → List ℤ
 ends_of r =
     r.u0.low ∷ r.u0.high ∷ r.u1.low ∷ r.u1.high ∷ r.u2.low ∷ r.u2.high ∷ r.u3.low ∷ r.u3.high ∷ []
 
-abbrev pub ranges_left : Ranging → List ℤ → List ℤ
-ranges_left (ranging.Ranges ranges) before = ends_of ranges
-ranges_left (ranging.Refused why) before = before
+abbrev pub ranges_left : Result Ranges Refusal → List ℤ → List ℤ
+ranges_left (Ok ranges) before = ends_of ranges
+ranges_left (Err why) before = before
 
 -- Ranges as they stand in `out`.
 abbrev pub range_in : List ℤ → ℕ → Range

@@ -1,6 +1,6 @@
 -- The exported call that reports where a plan fails, for which 10, 11 and 13 are results: the number that it returns, what it leaves
 -- in `out`, and what that says.
-use Rattle.std.specs.Prelude.{ℕ, ◌<◌, ◌≤◌, ◌≡◌, List, [], ◌∷◌, ℤ, pos, nat_abs}
+use Rattle.std.specs.Prelude.{ℕ, ◌<◌, ◌≤◌, ◌≡◌, List, [], ◌∷◌, ℤ, pos, nat_abs, Result, Ok, Err}
 use Rattle.integer.specs.Places.{at}
 use Rattle.commands.specs.Ranges.{most_rounds}
 use Rattle.tape.specs.declared.refusal.Carried.{Carried}
@@ -11,8 +11,6 @@ use Rattle.tape.specs.declared.refusal.Span.{Span}
 use Rattle.tape.specs.Reading.{reading}
 use Rattle.tape.specs.Refusals.{row}
 use Rattle.numbers.specs.Numbers.{code_of}
-use Rattle.judge.specs.declared.Judged.{Judged}
-use Rattle.judge.specs.declared.Judged.TheVariants.{Gap, Refused}
 use Rattle.judge.specs.Demand.{NoneCheaper}
 use Rattle.judge.specs.Reasons.{OffTheModel, OverTheLimit, TooWide}
 
@@ -32,14 +30,14 @@ refused_left why (carried.Place at) before = before
 refused_left why carried.Nothing before = before
 refused_left why (carried.Rounds R) before = before
 
-abbrev pub reported_code : Judged → ℕ
-reported_code (Gap gap) = 0
-reported_code (Refused why) = refused_code why (row why).carries
+abbrev pub reported_code : Result ℤ Refusal → ℕ
+reported_code (Ok gap) = 0
+reported_code (Err why) = refused_code why (row why).carries
 
 -- 0, the gap, and 0 behind it; or a refusal's
-abbrev pub reported_left : Judged → List ℤ → List ℤ
-reported_left (Gap gap) before = pos 0 ∷ gap ∷ pos 0 ∷ pos 0 ∷ pos 0 ∷ []
-reported_left (Refused why) before = refused_left why (row why).carries before
+abbrev pub reported_left : Result ℤ Refusal → List ℤ → List ℤ
+reported_left (Ok gap) before = pos 0 ∷ gap ∷ pos 0 ∷ pos 0 ∷ pos 0 ∷ []
+reported_left (Err why) before = refused_left why (row why).carries before
 
 -- A fault, and cost and floor, as they stand in `out`.
 abbrev pub fault_in : List ℤ → Fault

@@ -2,10 +2,10 @@
 ghost use Rattle.std.specs.Prelude.{◌≡◌, length};
 ghost use Rattle.tape.specs.Reading.{reading};
 ghost use Rattle.corrections.specs.Corrections.{corrected, pivots_left, correction_left};
-ghost use Rattle.planner.specs.Corrections.{corrected_code, corrected_left};
+ghost use Rattle.planner.specs.Corrections.{corrected_code, corrected_left, corrected_numbers};
 
+use crate::answer::answer;
 use corrections::{Corrected, banded_correction};
-use numbers::code;
 
 // Works out d of residuals. `out` then holds 1, or 0 where the tape is not solved by the banded step.
 #[unsafe(no_mangle)]
@@ -21,16 +21,17 @@ pub extern "C" fn fibergravel_banded_correction(
     ensures pivots_after { pivots.new ≡ pivots_left (corrected tape.now residuals.now (length pivots.old) (length correction.old)) (reading tape.now).tape pivots.old }
     ensures correction_after { correction.new ≡ correction_left (corrected tape.now residuals.now (length pivots.old) (length correction.old)) (reading tape.now).tape residuals.now correction.old }
 {
-    let answer = banded_correction(tape, residuals, pivots, correction);
+    answer(
+        banded_correction(tape, residuals, pivots, correction).map(corrected_numbers),
+        out,
+    )
+}
+
+fn corrected_numbers(answer: Corrected) -> [i64; 1]
+    ensures { result ≡ corrected_numbers answer }
+{
     match answer {
-        Corrected::Written => {
-            *out = [1];
-            0
-        }
-        Corrected::Unused => {
-            *out = [0];
-            0
-        }
-        Corrected::Refused(why) => code(why),
+        Corrected::Written => [1],
+        Corrected::Unused => [0],
     }
 }

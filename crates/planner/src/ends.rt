@@ -4,8 +4,8 @@ ghost use Rattle.tape.specs.Reading.{reading};
 ghost use Rattle.ranges.specs.Ranges.{ranges_of};
 ghost use Rattle.planner.specs.Ranges.{ranges_code, ends_of, ranges_left, BoundingBy};
 
-use numbers::code;
-use ranges::{Ranges, Ranging, judge_ranges};
+use crate::answer::answer;
+use ranges::{Ranges, judge_ranges};
 
 // Judges a plan with multipliers. `out` then holds the ends of the first duties' ranges.
 #[unsafe(no_mangle)]
@@ -19,14 +19,7 @@ pub extern "C" fn fibergravel_ranges(
     ensures out_after { out.new ≡ ranges_left (ranges_of tape.now plan.now multipliers.now) out.old }
     ensures bounding_by { BoundingBy result out.new (reading tape.now).tape plan.now multipliers.now }
 {
-    let answer = judge_ranges(tape, plan, multipliers);
-    match answer {
-        Ranging::Ranges(ranges) => {
-            *out = ends(ranges);
-            0
-        }
-        Ranging::Refused(why) => code(why),
-    }
+    answer(judge_ranges(tape, plan, multipliers).map(ends), out)
 }
 
 // The two ends of each range.

@@ -4,8 +4,8 @@ ghost use Rattle.import.specs.Entries.{imported, refusal_number};
 ghost use Rattle.models.specs.Models.{model_answer, model_left};
 ghost use Rattle.planner.specs.Imports.{entry_left, leftover_left, ExactBy, model_code, ReadBackBy};
 
-use import::{Entry, import_entry};
-use models::{Model, import_model};
+use import::{Entry, ImportError, import_entry};
+use models::import_model;
 use numbers::code;
 
 // Imports an entry. `out` then holds kind and number, `leftover` what is left.
@@ -20,20 +20,19 @@ pub extern "C" fn fibergravel_import_entry(
     ensures leftover_after { leftover.new ≡ leftover_left (imported entry) leftover.old }
     ensures exact_by { ExactBy result entry out.new leftover.new }
 {
-    let answer = import_entry(entry);
-    match answer {
-        Entry::Whole(number) => {
+    match import_entry(entry) {
+        Ok(Entry::Whole(number)) => {
             *out = [1, number];
             *leftover = [0.0];
             0
         }
-        Entry::Near(number, rest) => {
+        Ok(Entry::Near(number, rest)) => {
             *out = [2, number];
             *leftover = [rest];
             0
         }
-        Entry::NotFinite => 16,
-        Entry::TooLarge => 17,
+        Err(ImportError::NotFinite) => 16,
+        Err(ImportError::TooLarge) => 17,
     }
 }
 
@@ -50,9 +49,8 @@ pub extern "C" fn fibergravel_import_model(
     ensures out_after { out.new ≡ model_left (model_answer n m a.now b.now (length out.old)) n m a.now b.now out.old }
     ensures read_back_by { ReadBackBy result n m a.now b.now out.new }
 {
-    let answer = import_model(n, m, a, b, out);
-    match answer {
-        Model::Written => 0,
-        Model::Refused(why) => code(why),
+    match import_model(n, m, a, b, out) {
+        Ok(()) => 0,
+        Err(why) => code(why),
     }
 }

@@ -3,6 +3,7 @@
 // times what it carries.
 #![tactic(auto)]
 
+mod answer;
 mod band;
 mod ends;
 mod imports;
@@ -14,13 +15,14 @@ ghost use Rattle.commands.specs.Ranges.{most_rounds};
 ghost use Rattle.tape.specs.Reading.{reading};
 ghost use Rattle.judge.specs.Judging.{judged, shown};
 ghost use Rattle.solver.specs.Solving.{solving, answer_of, plan_left, multipliers_left};
-ghost use Rattle.planner.specs.Calls.{read_code, read_left, references_left, step_left, judged_code, judged_left, shown_code, solved_code, solved_left};
+ghost use Rattle.planner.specs.Calls.{read_code, read_left, references_left, step_left, judged_code, judged_left, shown_code, solved_code, solved_left, solved_numbers, rounds_of};
 ghost use Rattle.planner.specs.Demand.{BackedBy, FoundedBy, UpheldBy, AgainBy, RoundsBy};
 
-use judge::{Judged, Shown, judge_multipliers, judge_plan};
+use crate::answer::answer;
+use judge::{judge_multipliers, judge_plan};
 use numbers::{code, numbers_of, reference_numbers, step_numbers};
 use solver::{Duties, Solved, solve};
-use tape::{Answer, read};
+use tape::read;
 
 // Reads a tape. `out` then holds its numbers.
 #[unsafe(no_mangle)]
@@ -28,15 +30,7 @@ pub extern "C" fn fibergravel_read(tape: &[u8], out: &mut [i64; 118]) -> u64
     ensures value { result ≡ read_code (reading tape.now).answer }
     ensures out_after { out.new ≡ read_left (reading tape.now).answer (reading tape.now).tape out.old }
 {
-    let result = read(tape);
-    let answer = result.answer;
-    match answer {
-        Answer::Accepted => {
-            *out = numbers_of(result.tape);
-            0
-        }
-        Answer::Refused(why) => code(why),
-    }
+    answer(read(tape).map(numbers_of), out)
 }
 
 // Reads the references that a tape gives by step. `out` then holds them and their marks.
@@ -45,15 +39,7 @@ pub extern "C" fn fibergravel_read_references(tape: &[u8], out: &mut [i64; 240])
     ensures value { result ≡ read_code (reading tape.now).answer }
     ensures out_after { out.new ≡ references_left (reading tape.now).answer (reading tape.now).tape out.old }
 {
-    let result = read(tape);
-    let answer = result.answer;
-    match answer {
-        Answer::Accepted => {
-            *out = reference_numbers(result.tape);
-            0
-        }
-        Answer::Refused(why) => code(why),
-    }
+    answer(read(tape).map(reference_numbers), out)
 }
 
 // Reads which step a tape asks for. `out` then holds 0 for command 50, 1 for 51.
@@ -62,15 +48,7 @@ pub extern "C" fn fibergravel_read_step(tape: &[u8], out: &mut [i64; 1]) -> u64
     ensures value { result ≡ read_code (reading tape.now).answer }
     ensures out_after { out.new ≡ step_left (reading tape.now).answer (reading tape.now).tape out.old }
 {
-    let result = read(tape);
-    let answer = result.answer;
-    match answer {
-        Answer::Accepted => {
-            *out = step_numbers(result.tape);
-            0
-        }
-        Answer::Refused(why) => code(why),
-    }
+    answer(read(tape).map(step_numbers), out)
 }
 
 // Judges a plan with multipliers. `out` then holds the gap.
@@ -85,14 +63,13 @@ pub extern "C" fn fibergravel_judge_plan(
     ensures out_after { out.new ≡ judged_left (judged tape.now plan.now multipliers.now) out.old }
     ensures backed_by { BackedBy result out.new (reading tape.now).tape plan.now multipliers.now }
 {
-    let answer = judge_plan(tape, plan, multipliers);
-    match answer {
-        Judged::Gap(gap) => {
-            *out = [gap];
-            0
-        }
-        Judged::Refused(why) => code(why),
-    }
+    answer(judge_plan(tape, plan, multipliers).map(gap_numbers), out)
+}
+
+fn gap_numbers(gap: i64) -> [i64; 1]
+    ensures { result ≡ gap ∷ [] }
+{
+    [gap]
 }
 
 // Judges multipliers for impossibility.
@@ -101,10 +78,9 @@ pub extern "C" fn fibergravel_judge_multipliers(tape: &[u8], multipliers: &[i32]
     ensures value { result ≡ shown_code (shown tape.now multipliers.now) }
     ensures founded_by { FoundedBy result (reading tape.now).tape }
 {
-    let answer = judge_multipliers(tape, multipliers);
-    match answer {
-        Shown::Shown => 0,
-        Shown::Refused(why) => code(why),
+    match judge_multipliers(tape, multipliers) {
+        Ok(()) => 0,
+        Err(why) => code(why),
     }
 }
 
@@ -124,17 +100,17 @@ pub extern "C" fn fibergravel_solve(
     ensures again_by { AgainBy result out.new tape.now plan.new multipliers.new }
     ensures upheld_by { UpheldBy result out.new (reading tape.now).tape plan.new multipliers.new }
 {
-    let answer = solve(tape, plan, multipliers);
+    answer(solve(tape, plan, multipliers).map(solved_numbers), out)
+}
+
+// What an answer lacks is 0.
+fn solved_numbers(answer: Solved) -> [i64; 7]
+    requires { rounds_of answer ≤ most_rounds }
+    ensures { result ≡ solved_numbers answer }
+{
     match answer {
-        Solved::Proved(rounds, gap, first) => {
-            *out = proved_numbers(rounds, gap, first);
-            0
-        }
-        Solved::Impossible(rounds) => {
-            *out = [2, rounds as i64, 0, 0, 0, 0, 0];
-            0
-        }
-        Solved::Refused(why) => code(why),
+        Solved::Proved(rounds, gap, first) => proved_numbers(rounds, gap, first),
+        Solved::Impossible(rounds) => [2, rounds as i64, 0, 0, 0, 0, 0],
     }
 }
 

@@ -2,9 +2,9 @@
 ghost use Rattle.std.specs.Prelude.{◌≡◌, length};
 ghost use Rattle.tape.specs.Reading.{reading};
 ghost use Rattle.recorder.specs.Calls.{recorded_at, answer_of, laboratory_left, service_left};
-ghost use Rattle.planner.specs.Records.{recorded_code, recorded_left, UpheldInBy};
+ghost use Rattle.planner.specs.Records.{recorded_code, recorded_left, recorded_numbers, UpheldInBy};
 
-use numbers::code;
+use crate::answer::answer;
 use recorder::{Recorded, write_record};
 
 // Solves a tape and writes its record. `out` then holds the kind.
@@ -21,20 +21,18 @@ pub extern "C" fn fibergravel_record(
     ensures service_after { service.new ≡ service_left (recorded_at tape.now (length laboratory.old) (length service.old)) service.old }
     ensures upheld_in_by { UpheldInBy result out.new (reading tape.now).tape laboratory.new service.new }
 {
-    let answer = write_record(tape, laboratory, service);
-    match answer {
-        Recorded::Proved => {
-            *out = [1];
-            0
-        }
-        Recorded::Impossible => {
-            *out = [2];
-            0
-        }
-        Recorded::Open => {
-            *out = [3];
-            0
-        }
-        Recorded::Refused(why) => code(why),
+    answer(
+        write_record(tape, laboratory, service).map(recorded_numbers),
+        out,
+    )
+}
+
+fn recorded_numbers(kind: Recorded) -> [i64; 1]
+    ensures { result ≡ recorded_numbers kind }
+{
+    match kind {
+        Recorded::Proved => [1],
+        Recorded::Impossible => [2],
+        Recorded::Open => [3],
     }
 }

@@ -4,7 +4,7 @@ ghost use Rattle.tape.specs.Refusals.{row};
 ghost use Rattle.judge.specs.Judging.{judged};
 ghost use Rattle.planner.specs.Reports.{refused_code, refused_left, reported_code, reported_left, ReportedBy, SmallCarried};
 
-use judge::{Judged, judge_plan};
+use judge::judge_plan;
 use numbers::code;
 use tape::refusal::{Carried, Fault, Refusal, Span, carries, number};
 
@@ -20,13 +20,12 @@ pub extern "C" fn fibergravel_judge_report(
     ensures out_after { out.new ≡ reported_left (judged tape.now plan.now multipliers.now) out.old }
     ensures reported_by { ReportedBy result out.new tape.now plan.now multipliers.now }
 {
-    let answer = judge_plan(tape, plan, multipliers);
-    match answer {
-        Judged::Gap(gap) => {
+    match judge_plan(tape, plan, multipliers) {
+        Ok(gap) => {
             *out = [0, gap, 0, 0, 0];
             0
         }
-        Judged::Refused(why) => report_refusal(why, out),
+        Err(why) => report_refusal(why, out),
     }
 }
 

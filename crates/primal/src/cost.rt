@@ -7,6 +7,8 @@ ghost use Rattle.problem.specs.Dual.{most, ceiling};
 ghost use Rattle.primal.specs.Padded.{padded_plan, term_of, padded_problem};
 ghost use Rattle.primal.specs.Ranges.{most_penalty, Ranged, Tables};
 
+use crate::total::total;
+
 // P (v - r)².
 pub fn cost_of(p: i64, r: i64, v: i64) -> i64
     requires { (nat_abs p ≤ most_penalty) × (nat_abs r ≤ most_number) × (nat_abs v ≤ most_number) }
@@ -28,14 +30,7 @@ pub fn plan_cost<'a>(
     requires { (horizon ≤ 12) × Tables penalty.now low.now high.now reference.now × Bounded most_number v.now }
     ensures { result ≡ plan_cost (padded_problem horizon [] [] [] [] penalty.now low.now high.now reference.now) (padded_plan v.now) }
 {
-    let count = 10 * horizon;
-    let mut total: i64 = 0;
-    let mut p: usize = 0;
-    while p < count {
-        total += cost_of(penalty[p], reference[p], v[p]);
-        p += 1;
-    }
-    total
+    total(10 * horizon, |p| cost_of(penalty[p], reference[p], v[p]))
 }
 
 // The most that a number within its limits costs.
@@ -62,12 +57,8 @@ pub fn ceiling_of<'a>(
     requires { (horizon ≤ 12) × Tables penalty.now low.now high.now reference.now }
     ensures { result ≡ ceiling (padded_problem horizon [] [] [] [] penalty.now low.now high.now reference.now) }
 {
-    let count = 10 * horizon;
-    let mut total: i64 = 0;
-    let mut p: usize = 0;
-    while p < count {
-        total += most_of(penalty[p], low[p], high[p], reference[p]);
-        p += 1;
-    }
-    total
+    total(
+        10 * horizon,
+        |p| most_of(penalty[p], low[p], high[p], reference[p]),
+    )
 }

@@ -12,10 +12,8 @@ pub fn dot(x: &[i64], i: usize, y: &[i64], j: usize, stride: usize, count: usize
     ensures { result ≡ sum count (λ q. at x.now (i + q) *ℤ at y.now (j + stride * q)) }
 {
     let mut total: i64 = 0;
-    let mut q: usize = 0;
-    while q < count {
+    for q in 0..count {
         total += x[i + q] * y[j + stride * q];
-        q += 1;
     }
     total
 }

@@ -7,3 +7,4 @@ pub mod dot;
 pub mod lifted;
 pub mod model;
 pub mod terms;
+pub mod total;

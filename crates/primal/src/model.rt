@@ -69,10 +69,8 @@ fn step_residuals<'a>(
         (state_at (at start.now) (padded_plan v.now).x k) ((padded_plan v.now).u k) i
         -ℤ pos 4096 *ℤ (padded_plan v.now).x k i) e.old e.new }
 {
-    let mut i: usize = 0;
-    while i < 6 {
+    for i in 0..6 {
         e[6 * k + i] = model_sum(a, b, drift, start, v, k, i) - 4096 * v[10 * k + (4 + i)];
-        i += 1;
     }
 }
 
@@ -92,10 +90,8 @@ pub fn residuals<'a>(
         -ℤ pos 4096 *ℤ (padded_plan v.now).x k i) result }
 {
     let mut e = [0i64; 72];
-    let mut k: usize = 0;
-    while k < horizon {
+    for k in 0..horizon {
         step_residuals(&mut e, a, b, drift, start, v, k);
-        k += 1;
     }
     e
 }

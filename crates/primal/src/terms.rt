@@ -39,10 +39,8 @@ fn put_row(table: &mut [i64; 120], row: &[i64; 10], n: usize, m: usize, k: usize
     requires { (n ≤ 6) × (m ≤ 4) × (k < 12) × (length table.old ≡ 120) }
     ensures { Stretch (10 * k) 10 (placed (at row.now) n m) table.old table.new }
 {
-    let mut c: usize = 0;
-    while c < 10 {
+    for c in 0..10 {
         table[10 * k + c] = placed_at(row, n, m, c);
-        c += 1;
     }
 }
 
@@ -52,10 +50,8 @@ fn spread(row: &[i64; 10], n: usize, m: usize) -> [i64; 120]
     ensures { Steps 10 12 (λ k. placed (at row.now) n m) result }
 {
     let mut table = [0i64; 120];
-    let mut k: usize = 0;
-    while k < 12 {
+    for k in 0..12 {
         put_row(&mut table, row, n, m, k);
-        k += 1;
     }
     table
 }
@@ -75,11 +71,9 @@ fn references_at(curves: Curves, held: &[i64; 10], k: usize) -> [i64; 10]
     ensures { Stretch 0 10 (λ c. step_reference curves held.now c k) (replicate 10 (pos 0)) result }
 {
     let mut row = [0i64; 10];
-    let mut c: usize = 0;
-    while c < 10 {
+    for c in 0..10 {
         let p = 12 * c + k;
         row[c] = own_or_held(curves.given[p], curves.reference[p], held[c]);
-        c += 1;
     }
     row
 }
@@ -90,11 +84,9 @@ fn references(t: Tape) -> [i64; 120]
     ensures { Steps 10 12 (λ k. placed (λ column. reference_at t column k) t.n t.m) result }
 {
     let mut table = [0i64; 120];
-    let mut k: usize = 0;
-    while k < 12 {
+    for k in 0..12 {
         let row = references_at(t.curves, &t.reference, k);
         put_row(&mut table, &row, t.n, t.m, k);
-        k += 1;
     }
     table
 }
@@ -105,10 +97,8 @@ fn penalties(weight: &[i64; 10]) -> [i64; 10]
     ensures { Stretch 0 10 (λ c. pos 4096 *ℤ at weight.now c) (replicate 10 (pos 0)) result }
 {
     let mut penalty = [0i64; 10];
-    let mut c: usize = 0;
-    while c < 10 {
+    for c in 0..10 {
         penalty[c] = 4096 * weight[c];
-        c += 1;
     }
     penalty
 }

@@ -13,7 +13,7 @@ use Rattle.integer.specs.Sum.{sum}
 use Rattle.integer.specs.Tests.{outside, any}
 use Rattle.commands.specs.Format.{pair_command, size_command, drift_command, column_command, start_command, rounds_command, decoded, wrong_size, beyond, wrong_column, wrong}
 use Rattle.commands.specs.Required.{among, curved, on_curve, required}
-use Rattle.tape.specs.declared.Answer.TheVariants.{Accepted}
+use Rattle.tape.specs.Answer.{Accepted}
 use Rattle.tape.specs.Reading.{obey_size, obey_entry, absent, lacks_weight, obey_end, obey, next, read_from, reading}
 use Rattle.tape.specs.Tape.{step_reference}
 use Rattle.problem.specs.Model.{Problem, problem_of, plan_of, multipliers_of, state_at, model_sum, residual}

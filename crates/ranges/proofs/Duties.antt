@@ -6,10 +6,12 @@ use mathlib.Core.Logic.{⊎_elim}
 use native.Mathlib.Omega.{arith}
 use lib.IntN.{ℤ, pos}
 use borrow.Author.Tests.{lt-ltb, le-ltb}
+use Rattle.std.specs.Prelude.{Result, Ok, Err}
 use Rattle.integer.specs.Order.{◌≼◌}
 use Rattle.integer.proofs.Operand.{Bytes}
 use Rattle.integer.proofs.Places.{lt_or_le}
 use Rattle.tape.specs.declared.Tape.{Tape}
+use Rattle.tape.specs.declared.refusal.Refusal.{Refusal}
 use Rattle.tape.specs.Legal.{Legal}
 use Rattle.tape.specs.Reading.{reading}
 use Rattle.problem.specs.Model.{Term, problem_of, plan_of, multipliers_of}
@@ -21,11 +23,9 @@ use Rattle.primal.specs.Padded.{input_matrix, padded, term_at}
 use Rattle.primal.specs.Held.{BlankMultipliers, HeldMultipliers}
 use Rattle.primal.specs.Terms.{TermsOf}
 use Rattle.dual.proofs.FloorPadding.{input_slope-padded}
-use Rattle.judge.specs.declared.Judged.{Judged}
-use Rattle.judge.specs.declared.Judged.TheVariants as judge
 use Rattle.judge.specs.Judging.{judged}
 use Rattle.judge.proofs.Granted.{granted, accepted, gap_nonneg}
-use Rattle.ranges.specs.declared.Ranging.{Ranging}
+use Rattle.ranges.specs.declared.Ranges.{Ranges}
 use Rattle.ranges.specs.Near.{AllNear}
 use Rattle.ranges.specs.Range.{range_of}
 use Rattle.ranges.specs.Ranges.{duty_range, first_ranges, ranged_by, ranges_of, range_at, AsCheap, NearPlan, Bounding}
@@ -83,13 +83,13 @@ module _ (t : Tape) (legal : Legal t) (plan y : List ℤ) where
 
 module _ (s : List ℕ) (plan y : List ℤ) (bytes : Bytes s) where
   -- both clauses of a promise from the first
-  pub ranges_promise : {r : Ranging} → r ≡ ranges_of s plan y → (r ≡ ranges_of s plan y) × Bounding r (reading s).tape plan y
+  pub ranges_promise : {r : Result Ranges Refusal} → r ≡ ranges_of s plan y → (r ≡ ranges_of s plan y) × Bounding r (reading s).tape plan y
   unfolding ranges_of
   ranges_promise e = (e, rw e (go (judged s plan y) refl))
     where
-      go : (j : Judged) → judged s plan y ≡ j → Bounding (ranged_by j (reading s).tape y) (reading s).tape plan y
-      go (judge.Gap gap) is =
+      go : (j : Result ℤ Refusal) → judged s plan y ≡ j → Bounding (ranged_by j (reading s).tape y) (reading s).tape plan y
+      go (Ok gap) is =
           rw (accepted s plan y bytes gap is).reported
           (near_plan (reading s).tape (granted s plan y bytes gap is).lawful plan y
           (rw (accepted s plan y bytes gap is).reported at (gap_nonneg s plan y bytes gap is)))
-      go (judge.Refused why) is = tt
+      go (Err why) is = tt

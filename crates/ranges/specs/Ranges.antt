@@ -1,18 +1,15 @@
 -- The ranges of the first duties of an accepted plan.
-use Rattle.std.specs.Prelude.{ℕ, zero, suc, ◌<◌, cond, List, ltb, ℤ, pos, ◌*ℤ◌}
+use Rattle.std.specs.Prelude.{ℕ, zero, suc, ◌<◌, cond, List, ltb, ℤ, pos, ◌*ℤ◌, Result, Ok, Err}
 use Rattle.integer.specs.Order.{◌≼◌}
 use Rattle.tape.specs.declared.Tape.{Tape}
+use Rattle.tape.specs.declared.refusal.Refusal.{Refusal}
 use Rattle.tape.specs.Reading.{reading}
 use Rattle.problem.specs.Model.{problem_of, plan_of, multipliers_of}
 use Rattle.problem.specs.Cost.{square, cost_of}
 use Rattle.problem.specs.Rival.{Rival, rival_cost}
 use Rattle.problem.specs.Dual.{input_slope, gap_of}
-use Rattle.judge.specs.declared.Judged.{Judged}
-use Rattle.judge.specs.declared.Judged.TheVariants as judge
 use Rattle.judge.specs.Judging.{judged}
 use Rattle.ranges.specs.declared.Ranges.{Ranges}
-use Rattle.ranges.specs.declared.Ranging.{Ranging}
-use Rattle.ranges.specs.declared.Ranging.TheVariants as ranging
 use Rattle.ranges.specs.declared.range.Range.{Range}
 use Rattle.ranges.specs.Near.{AllNear}
 use Rattle.ranges.specs.Range.{range_of, Inside}
@@ -30,11 +27,11 @@ first_ranges t y gap =
     record { u0 = range 0; u1 = range 1; u2 = range 2; u3 = range 3 }
 
 -- Where judging gives a gap, the ranges by it; else its refusal.
-abbrev pub ranged_by : Judged → Tape → List ℤ → Ranging
-ranged_by (judge.Gap gap) t y = ranging.Ranges (first_ranges t y gap)
-ranged_by (judge.Refused why) t y = ranging.Refused why
+abbrev pub ranged_by : Result ℤ Refusal → Tape → List ℤ → Result Ranges Refusal
+ranged_by (Ok gap) t y = Ok (first_ranges t y gap)
+ranged_by (Err why) t y = Err why
 
-unfoldable pub ranges_of : List ℕ → List ℤ → List ℤ → Ranging
+unfoldable pub ranges_of : List ℕ → List ℤ → List ℤ → Result Ranges Refusal
 ranges_of s plan y = ranged_by (judged s plan y) (reading s).tape y
 
 -- ---- What the ranges say
@@ -58,6 +55,6 @@ pub record NearPlan (t : Tape) (plan y : List ℤ) (ranges : Ranges) : Type 0 wh
       Inside D (range_at ranges j) ((plan_of t.n t.m rival).u 0 j)
 
 -- A plan that is accepted.
-abbrev pub Bounding : Ranging → Tape → List ℤ → List ℤ → Type 0
-Bounding (ranging.Ranges ranges) t plan y = NearPlan t plan y ranges
-Bounding (ranging.Refused why) t plan y = Unit {0}
+abbrev pub Bounding : Result Ranges Refusal → Tape → List ℤ → List ℤ → Type 0
+Bounding (Ok ranges) t plan y = NearPlan t plan y ranges
+Bounding (Err why) t plan y = Unit {0}

@@ -17,7 +17,7 @@ ghost use Rattle.ranges.specs.Ranges.{duty_range, first_ranges, ranges_of, Bound
 
 use crate::range::{Range, range_of};
 use dual::slopes::input_slope_at;
-use judge::{Judged, judge_plan};
+use judge::judge_plan;
 use lent::multipliers::padded_multipliers;
 use primal::terms::{Terms, terms_of};
 use tape::refusal::Refusal;
@@ -32,25 +32,14 @@ pub struct Ranges {
     pub u3: Range,
 }
 
-#[derive(Clone, Copy)]
-pub enum Ranging {
-    Ranges(Ranges),
-    Refused(Refusal),
-}
-
 // Judges a plan with multipliers, and gives the ranges of the first duties where it is accepted.
-pub fn judge_ranges(tape: &[u8], plan: &[i32], multipliers: &[i32]) -> Ranging
+pub fn judge_ranges(tape: &[u8], plan: &[i32], multipliers: &[i32]) -> Result<Ranges, Refusal>
     ensures value { result ≡ ranges_of tape.now plan.now multipliers.now }
     ensures bounding { Bounding result (reading tape.now).tape plan.now multipliers.now }
 {
-    let judged = judge_plan(tape, plan, multipliers);
-    match judged {
-        Judged::Gap(gap) => {
-            let result = read(tape);
-            Ranging::Ranges(first_ranges(result.tape, multipliers, gap))
-        }
-        Judged::Refused(why) => Ranging::Refused(why),
-    }
+    let t = read(tape)?;
+    let gap = judge_plan(tape, plan, multipliers)?;
+    Ok(first_ranges(t, multipliers, gap))
 }
 
 // The ranges of the first duties, from the multipliers and the gap of an accepted plan.

@@ -16,8 +16,9 @@ use Rattle.integer.proofs.Places.{lt_or_le, all_bounded}
 use Rattle.integer.proofs.Sizes.{size_by, size_low, size-high}
 use Rattle.integer.proofs.Tests.{by_test}
 use Rattle.commands.specs.Ranges.{most_number, most_multiplier}
-use Rattle.tape.specs.declared.Answer.{Answer}
-use Rattle.tape.specs.declared.Answer.TheVariants as answer
+use Rattle.std.specs.Prelude.{Result, Ok, Err}
+use Rattle.tape.specs.Answer.{Answer}
+use Rattle.tape.specs.Answer as answer
 use Rattle.tape.specs.declared.Tape.{Tape}
 use Rattle.tape.specs.declared.refusal.Carried.{Carried}
 use Rattle.tape.specs.declared.refusal.Carried.TheVariants.{Place, Nothing, Fault, Span, Rounds}
@@ -31,13 +32,11 @@ use Rattle.problem.specs.Cost.{FollowsTape}
 use Rattle.problem.specs.Dual.{shows}
 use Rattle.lent.specs.Checks.{wrong_multipliers_length, wrong_multipliers}
 use Rattle.lent.proofs.LentMultipliers.{multipliers_bounded}
-use Rattle.judge.specs.declared.Shown.{Shown}
-use Rattle.judge.specs.declared.Shown.TheVariants as shown
 use Rattle.judge.specs.Judging.{shown_on, shown_after_read}
 use Rattle.judge.specs.Judging as judging
 use Rattle.judge.proofs.Granted.{granted, gap_nonneg}
 use Rattle.solver.specs.declared.Solved.{Solved}
-use Rattle.solver.specs.declared.Solved.TheVariants.{Proved, Impossible, Refused}
+use Rattle.solver.specs.declared.Solved.TheVariants.{Proved, Impossible}
 use Rattle.solver.specs.Demand.{Upheld, JudgedAgain}
 use Rattle.solver.specs.Solving.{solving, answer_of, plan_left, multipliers_left}
 use Rattle.solver.proofs.Again.{judged_again, upheld}
@@ -80,9 +79,9 @@ Multipliers t y = Numbers (multiplier_numbers t) most_multiplier y
 multipliers_within : (t : Tape) (y : List ℤ) → wrong_multipliers_length t y ≡ false → wrong_multipliers y ≡ false → Multipliers t y
 multipliers_within t y l w = record { long = eqb-true _ _ (not-false _ l); within = multipliers_bounded y w }
 
-abbrev OnShown : Tape → List ℤ → Shown → Type 0
-OnShown t y shown.Shown = Multipliers t y
-OnShown t y (shown.Refused why) = Unit {0}
+abbrev OnShown : Tape → List ℤ → Result (Unit {0}) Refusal → Type 0
+OnShown t y (Ok tt) = Multipliers t y
+OnShown t y (Err why) = Unit {0}
 
 on_shown : (s : List ℕ) (y : List ℤ) → OnShown (reading s).tape y (judging.shown s y)
 unfolding judging.shown shown_on
@@ -114,8 +113,8 @@ module _ (s : List ℕ) (b : Bytes s) where
   open_fits why (Fault fault) h = tt
   open_fits why (Span span) h = tt
 
-  answer_fits : (a : Solved) (plan y : List ℤ) → JudgedAgain a s plan y → Upheld a t plan y → SmallSolved a → KeptFits (record_of (sizes_of t) a plan y)
-  answer_fits (Proved rounds gap first) plan y j u h =
+  answer_fits : (a : Result Solved Refusal) (plan y : List ℤ) → JudgedAgain a s plan y → Upheld a t plan y → SmallSolved a → KeptFits (record_of (sizes_of t) a plan y)
+  answer_fits (Ok (Proved rounds gap first)) plan y j u h =
       let g = granted s plan y b gap j in
       let ok = g.lawful in
       let itself = u.0.itself in
@@ -130,8 +129,8 @@ module _ (s : List ℕ) (b : Bytes s) where
           record { long = g.long; within = multipliers_bounded y g.ranged },
         );
       }
-  answer_fits (Impossible rounds) plan y j u h = record { sizes = fitting; rounds = h; outcome = rw j at (on_shown s y) }
-  answer_fits (Refused why) plan y j u h = open_fits why (row why).carries h
+  answer_fits (Ok (Impossible rounds)) plan y j u h = record { sizes = fitting; rounds = h; outcome = rw j at (on_shown s y) }
+  answer_fits (Err why) plan y j u h = open_fits why (row why).carries h
 
   pub recording_fits : KeptFits (recording s)
   unfolding recording

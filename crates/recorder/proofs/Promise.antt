@@ -4,6 +4,7 @@ use mathlib.Core.Path.{◌≡◌, refl, sym, ap, ◌∙◌}
 use mathlib.Core.Bool.{Bool, true, false, cond, not}
 use mathlib.Core.List.{List, [], ◌∷◌}
 use native.Mathlib.Omega.{arith}
+use borrow.Author.Rules.{rules}
 use borrow.Author.Tests.{eqb-true, not-false, eq-eqb, ne_eqb}
 use lib.Dec.{eqb}
 use lib.ListN.{length, take}
@@ -12,8 +13,9 @@ use lib.IntN.{ℤ}
 use Rattle.integer.proofs.Operand.{Bytes}
 use Rattle.integer.proofs.Places.{take-bounded}
 use Rattle.integer.proofs.Tests.{by_test, none}
-use Rattle.tape.specs.declared.Answer.{Answer}
-use Rattle.tape.specs.declared.Answer.TheVariants as answer
+use Rattle.std.specs.Prelude.{Result, Ok, Err}
+use Rattle.tape.specs.Answer.{Answer, Reading, told, told_of}
+use Rattle.tape.specs.Answer as answer
 use Rattle.tape.specs.declared.Tape.{Tape}
 use Rattle.tape.specs.declared.refusal.Carried.{Carried}
 use Rattle.tape.specs.declared.refusal.Carried.TheVariants.{Place, Nothing, Fault, Span, Rounds}
@@ -24,7 +26,7 @@ use Rattle.tape.specs.Refusals.{row}
 use Rattle.tape.specs.Tape.{zeros}
 use Rattle.judge.specs.Demand.{NoneCheaper}
 use Rattle.solver.specs.declared.Solved.{Solved}
-use Rattle.solver.specs.declared.Solved.TheVariants.{Proved, Impossible, Refused}
+use Rattle.solver.specs.declared.Solved.TheVariants.{Proved, Impossible}
 use Rattle.solver.specs.Demand.{Upheld}
 use Rattle.solver.specs.Solving as solving
 use Rattle.solver.proofs.Again.{upheld}
@@ -36,7 +38,7 @@ use Rattle.records.specs.Records.{record_with}
 use Rattle.records.specs.Records as records
 use Rattle.recorder.specs.Calls.{wrong_lengths, after_read, recorded_at, answer_of, laboratory_left, service_left}
 use Rattle.recorder.specs.Demand.{UpheldIn}
-use Rattle.recorder.specs.Held.{KeptFits}
+use Rattle.recorder.specs.Held.{KeptFits, sizes_told}
 use Rattle.recorder.specs.Recording.{sizes_of, Recording, unanswered, record_of, recording}
 use Rattle.recorder.specs.Recording as recordings
 use Rattle.records.proofs.Back.{proved, gap_in_lem, duties_in_lem, numbers_in_lem, last_numbers_in, plan_from, multipliers_from}
@@ -56,8 +58,8 @@ module _ (t : Tape) (before before' : List ℕ) where
   open_held why (Fault fault) = tt
   open_held why (Span span) = tt
 
-  held : (a : Solved) (plan y : List ℤ) → Upheld a t plan y → KeptFits (record_of (sizes_of t) a plan y) → Held (record_of (sizes_of t) a plan y)
-  held (Proved rounds gap first) plan y u f =
+  held : (a : Result Solved Refusal) (plan y : List ℤ) → Upheld a t plan y → KeptFits (record_of (sizes_of t) a plan y) → Held (record_of (sizes_of t) a plan y)
+  held (Ok (Proved rounds gap first)) plan y u f =
       let z = sizes_of t in
       let d = take t.m plan in
       let h = f.outcome in
@@ -72,8 +74,8 @@ module _ (t : Tape) (before before' : List ℕ) where
       rw (multipliers_from l k z (number_bytes 4 plan) (number_bytes 4 y) (4 * plan_numbers t) w) (last_numbers_in y h.4 (omega arith)) in
       let none : NoneCheaper t (plan_in z service) (multipliers_in z service) (gap_in l) = rw (plans, multipliers, gap_in_lem rounds gap d h.1 h.2) u.0 in
       (none, duties ∙ ap (take t.m) (sym plans))
-  held (Impossible rounds) plan y u f = u
-  held (Refused why) plan y u f = open_held why (row why).carries
+  held (Ok (Impossible rounds)) plan y u f = u
+  held (Err why) plan y u f = open_held why (row why).carries
 
 recording-held : (s : List ℕ) → Bytes s → (before before' : List ℕ) → Held (reading s).tape before before' (recording s)
 unfolding recording
@@ -86,9 +88,33 @@ recording-held s b before before' =
 
 -- ---- The call
 
+-- what is handed on of a reading says which reading it is of
+module _ (r : Reading) where
+  pub sizes_ok : {z : Sizes} → sizes_told (told_of r) ≡ Ok z → (r.answer ≡ answer.Accepted) × (sizes_of r.tape ≡ z)
+  sizes_ok e = go r.answer r.tape e
+    where
+      go : (a : Answer) (t : Tape) {z : Sizes} → sizes_told (told a t) ≡ Ok z → (a ≡ answer.Accepted) × (sizes_of t ≡ z)
+      go answer.Accepted t e = search rules
+      go (answer.Refused why) t e = search rules
+
+  pub sizes_err : {why : Refusal} → sizes_told (told_of r) ≡ Err why → r.answer ≡ answer.Refused why
+  sizes_err e = go r.answer r.tape e
+    where
+      go : (a : Answer) (t : Tape) {why : Refusal} → sizes_told (told a t) ≡ Err why → a ≡ answer.Refused why
+      go answer.Accepted t e = search rules
+      go (answer.Refused why) t e = search rules
+
+-- only what carries the rounds leaves a record
+pub left_unanswered : (z : Sizes) (why : Refusal) (c : Carried) → ((R : ℕ) → c ≡ Rounds R → ⊥) → unanswered z why c ≡ recordings.Refused why
+left_unanswered z why (Rounds R) other = absurd (other R refl)
+left_unanswered z why (Place at) other = refl
+left_unanswered z why Nothing other = refl
+left_unanswered z why (Fault fault) other = refl
+left_unanswered z why (Span span) other = refl
+
 -- the two tests of lengths
-pub wrong_laboratory : (z : Sizes) (laboratory service : ℕ) → (laboratory ≡ 16 → ⊥) → true ≡ wrong_lengths z laboratory service
-wrong_laboratory z laboratory service n = rw (ne_eqb laboratory 16 n)
+pub wrong_laboratory : (z : Sizes) (laboratory service : ℕ) → (laboratory ≡ 16 → ⊥) → not (eqb laboratory 16) ≡ wrong_lengths z laboratory service
+wrong_laboratory z laboratory service n = rw (ne_eqb laboratory 16 n) refl
 
 pub right_laboratory : (z : Sizes) (laboratory service : ℕ) → laboratory ≡ 16 → not (eqb service (service_length z)) ≡ wrong_lengths z laboratory service
 right_laboratory z laboratory service e = rw (eq-eqb laboratory 16 e)
@@ -126,7 +152,7 @@ module _ (s : List ℕ) (laboratory service : ℕ) where
       go (answer.Refused why) = tt
 
   -- all clauses from the first three
-  pub record_promise : (before before' : List ℕ) {r : Recorded} {left left' : List ℕ} → Bytes s → r ≡ answer_of (recorded_at s laboratory service) →
+  pub record_promise : (before before' : List ℕ) {r : Result Recorded Refusal} {left left' : List ℕ} → Bytes s → r ≡ answer_of (recorded_at s laboratory service) →
       left ≡ laboratory_left (recorded_at s laboratory service) before → left' ≡ service_left (recorded_at s laboratory service) before' →
       (r ≡ answer_of (recorded_at s laboratory service)) × ((left ≡ laboratory_left (recorded_at s laboratory service) before)
       × ((left' ≡ service_left (recorded_at s laboratory service) before') × UpheldIn r t left left'))

@@ -11,7 +11,9 @@ use Rattle.integer.proofs.Order.{order}
 use Rattle.integer.proofs.Parts.{negated}
 use Rattle.integer.proofs.Sizes.{size_by, back, back_is}
 use Rattle.commands.specs.Ranges.{most_wanted}
+use Rattle.std.specs.Prelude.{Result, Ok}
 use Rattle.tape.specs.declared.Tape.{Tape}
+use Rattle.tape.specs.declared.refusal.Refusal.{Refusal}
 use Rattle.tape.specs.Reading.{reading}
 use Rattle.tape.specs.Tape.{zeros}
 use Rattle.rounds.specs.Running.{Ending, proved, impossible, refused}
@@ -69,15 +71,15 @@ module _ (s : List ℕ) (b : Bytes s) where
     pub arrays_room : (plan_count z ≤ length solution.plan) × (multiplier_count z ≤ length solution.multipliers)
     arrays_room = rw (is, same) solution_room
 
-    abbrev pub made : Solved → Recording
+    abbrev pub made : Result Solved Refusal → Recording
     made a = record_of z a (take (plan_count z) solution.plan) (take (multiplier_count z) solution.multipliers)
 
-    pub recorded : {a : Solved} → solution.answer ≡ a → recording s ≡ made a
+    pub recorded : {a : Result Solved Refusal} → solution.answer ≡ a → recording s ≡ made a
     recorded h = rw (sym h, is, same) solution_record
 
-    pub recorded_fits : {a : Solved} → solution.answer ≡ a → KeptFits (made a)
+    pub recorded_fits : {a : Result Solved Refusal} → solution.answer ≡ a → KeptFits (made a)
     recorded_fits h = rw (recorded h) at (recording_fits s b)
 
     -- the gap is as it is read back
-    pub gap_back : {rounds : ℕ} {gap : ℤ} {first : Duties} → solution.answer ≡ Proved rounds gap first → back gap ≡ gap
+    pub gap_back : {rounds : ℕ} {gap : ℤ} {first : Duties} → solution.answer ≡ Ok (Proved rounds gap first) → back gap ≡ gap
     gap_back {gap = gap} h = let f = (recorded_fits h).outcome in back_is gap (size_by {z = gap} (omega (arith, order, f.1, negated (pos most_wanted))) f.2) (omega arith)

@@ -1,7 +1,8 @@
 -- Document 02, request 5: the call that writes a record for both readers.
-use Rattle.std.specs.Prelude.{ℕ, Bool, cond, not, ◌||◌, List, eqb}
-use Rattle.tape.specs.declared.Answer.{Answer}
-use Rattle.tape.specs.declared.Answer.TheVariants as answer
+use Rattle.std.specs.Prelude.{ℕ, Bool, cond, not, ◌||◌, List, eqb, Result, Ok, Err}
+use Rattle.tape.specs.Answer.{Answer}
+use Rattle.tape.specs.Answer as answer
+use Rattle.tape.specs.declared.refusal.Refusal.{Refusal}
 use Rattle.tape.specs.declared.refusal.Refusal.TheVariants.{Length}
 use Rattle.tape.specs.Reading.{reading}
 use Rattle.recorder.specs.declared.Recorded.{Recorded}
@@ -24,15 +25,15 @@ unfoldable pub recorded_at : List ℕ → ℕ → ℕ → Recording
 recorded_at s laboratory service =
     after_read (reading s).answer (cond (wrong_lengths (sizes_of (reading s).tape) laboratory service) (Refused Length) (recording s))
 
--- The answer is the kind.
+-- The answer is the kind, or the refusal.
 abbrev pub kind_of : Outcome → Recorded
 kind_of (Proved gap plan y) = recorded.Proved
 kind_of (Impossible y) = recorded.Impossible
 kind_of Open = recorded.Open
 
-abbrev pub answer_of : Recording → Recorded
-answer_of (Kept r) = kind_of r.outcome
-answer_of (Refused why) = recorded.Refused why
+abbrev pub answer_of : Recording → Result Recorded Refusal
+answer_of (Kept r) = Ok (kind_of r.outcome)
+answer_of (Refused why) = Err why
 
 -- What the lent slices hold at exit, given what they held at entry.
 abbrev pub laboratory_left : Recording → List ℕ → List ℕ

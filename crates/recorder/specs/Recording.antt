@@ -1,5 +1,5 @@
 -- Document 02, request 5: the record of a tape's solve.
-use Rattle.std.specs.Prelude.{ℕ, List, ℤ}
+use Rattle.std.specs.Prelude.{ℕ, List, ℤ, Result, Ok, Err}
 use Rattle.tape.specs.declared.Tape.{Tape}
 use Rattle.tape.specs.declared.refusal.Carried.{Carried}
 use Rattle.tape.specs.declared.refusal.Carried.TheVariants.{Place, Nothing, Fault, Span, Rounds}
@@ -31,10 +31,10 @@ unanswered z why (Fault fault) = Refused why
 unanswered z why (Span span) = Refused why
 
 -- From what a solve answers, and the plan and the multipliers that it leaves.
-abbrev pub record_of : Sizes → Solved → List ℤ → List ℤ → Recording
-record_of z (solved.Proved rounds gap first) plan y = Kept (record_with z rounds (Proved gap plan y))
-record_of z (solved.Impossible rounds) plan y = Kept (record_with z rounds (Impossible y))
-record_of z (solved.Refused why) plan y = unanswered z why (row why).carries
+abbrev pub record_of : Sizes → Result Solved Refusal → List ℤ → List ℤ → Recording
+record_of z (Ok (solved.Proved rounds gap first)) plan y = Kept (record_with z rounds (Proved gap plan y))
+record_of z (Ok (solved.Impossible rounds)) plan y = Kept (record_with z rounds (Impossible y))
+record_of z (Err why) plan y = unanswered z why (row why).carries
 
 -- The record of the solve of a tape, in slices of the right lengths.
 unfoldable pub recording : List ℕ → Recording

@@ -1,6 +1,6 @@
 -- A record's bytes: how long its fields are, and what stands at each of their places.
 use Prim.Native.Nat.{ℕ, suc, ◌+◌, ◌-◌, ◌*◌, ◌^◌, ◌<◌, ◌≤◌}
-use mathlib.Core.Path.{◌≡◌, refl, ap, ap₂, ◌∙◌}
+use mathlib.Core.Path.{◌≡◌, refl, sym, ap, ap₂, ◌∙◌}
 use mathlib.Core.List.{List, [], ◌∷◌, ◌++◌, append_assoc, append-nil}
 use native.Mathlib.Omega.{arith}
 use native.Mathlib.Nat.{mul-le-mul}
@@ -12,7 +12,7 @@ use borrow.Rule.Slice.PartMut.{mid_of, put_mid}
 use Rattle.integer.specs.Encoding.{unsigned_bytes, complement, signed_bytes}
 use Rattle.integer.specs.Places.{at, Bounded}
 use Rattle.integer.proofs.Encoding.{bytes_length, in_bytes, signed_back}
-use Rattle.integer.proofs.Filled.{Filled, filled_part, next_part}
+use Rattle.integer.proofs.Filled.{Filled, filled_none, filled_part, next_part, filled_end}
 use Rattle.records.specs.declared.Sizes.{Sizes}
 use Rattle.records.specs.Readers.{service_length, numbers_in, absent, number_bytes, head, duty_bytes, unproved, laboratory_bytes, plan_count, multiplier_count, sized, Proved}
 use Rattle.records.specs.Held.{Fitting}
@@ -30,6 +30,17 @@ module _ {L : ℕ} (a e w : ℕ) {done old zs : List ℕ} (h : a + w ≡ e) (l :
 
   pub filled_absent : zs ≡ replicate (length (mid_of a (e - a) old)) 0xFF → Filled L e (done ++ absent w) (put_mid a (e - a) old zs)
   filled_absent = filled_as absent (length-replicate w 0xFF)
+
+-- the last part, up to the list's end
+module _ {L : ℕ} (a w : ℕ) {done old : List ℕ} (h : a + w ≡ L) (f : Filled L a done old) where
+  pub last_part : length (mid_of a (length old - a) old) ≡ w
+  last_part = next_part a (length old) w (h ∙ sym f.long) (omega (arith, f.long)) f
+
+  pub filled_last : {zs : List ℕ} (from : List ℕ) → length from ≡ w → zs ≡ from → put_mid a (length old - a) old zs ≡ done ++ from
+  filled_last from n z = filled_end f.long (filled_part a (length old) w from (h ∙ sym f.long) (omega (arith, f.long)) n f z)
+
+  pub last_absent : {zs : List ℕ} → zs ≡ replicate (length (mid_of a (length old - a) old)) 0xFF → put_mid a (length old - a) old zs ≡ done ++ absent w
+  last_absent z = filled_last (absent w) (length-replicate w 0xFF) (z ∙ ap absent last_part)
 
 -- ---- Sizes
 
@@ -82,10 +93,19 @@ unfolding unsigned_bytes
 sized-length laboratory z h = simp (length-append, h)
 
 -- the part of the service's bytes before the multipliers of a record without a plan
-pub front_length : (kind rounds : ℕ) (z : Sizes) → length (sized (unproved kind rounds) z ++ absent (4 * plan_count z)) ≡ 19 + 4 * plan_count z
+front_length : (kind rounds : ℕ) (z : Sizes) → length (sized (unproved kind rounds) z ++ absent (4 * plan_count z)) ≡ 19 + 4 * plan_count z
 front_length kind rounds z =
     length-append (sized (unproved kind rounds) z) (absent (4 * plan_count z))
     ∙ ap₂ ◌+◌ (sized-length (unproved kind rounds) z (unproved-length kind rounds)) (length-replicate {A = ℕ} (4 * plan_count z) 0xFF)
+
+-- the service's slice once they are written
+pub front_filled : (kind rounds : ℕ) (z : Sizes) (service : List ℕ) {new : List ℕ} → length service ≡ service_length z → let p = plan_count z in
+    new ≡ sized (unproved kind rounds) z ++ absent (4 * p) →
+    Filled (service_length z) (19 + 4 * p) (sized (unproved kind rounds) z ++ absent (4 * p)) (put_mid 0 (19 + 4 * p - 0) service new)
+front_filled kind rounds z service h e =
+    let p = plan_count z in
+    filled_part 0 (19 + 4 * p) (19 + 4 * p) (sized (unproved kind rounds) z ++ absent (4 * p)) (omega arith) (omega (arith, service_split z))
+    (front_length kind rounds z) (filled_none (service_length z) {out = service} h) e
 
 -- ---- Numbers, one after the other
 

@@ -1,5 +1,5 @@
 // A record as bytes.
-ghost use Rattle.std.specs.Prelude.{◌+◌, ◌*◌, ◌^◌, ◌≤◌, ◌++◌, ◌≡◌, length, replicate};
+ghost use Rattle.std.specs.Prelude.{◌+◌, ◌*◌, ◌^◌, ◌≤◌, ◌++◌, ◌≡◌, length};
 ghost use Rattle.integer.specs.Places.{Bounded};
 ghost use Rattle.commands.specs.Ranges.{most_number};
 ghost use Rattle.records.specs.Readers.{absent, number_bytes, Seen, head, duty_bytes, unproved, laboratory_bytes, plan_count, service_length, sized, seen, service_bytes};
@@ -10,29 +10,16 @@ use crate::Sizes;
 use integer::bytes::{twos_complement, write_unsigned};
 use integer::number::size;
 
-fn fill(part: &mut [u8], byte: u8)
-    ensures { part.new ≡ replicate (length part.old) byte }
-{
-    let mut i: usize = 0;
-    while i < part.len() {
-        part[i] = byte;
-        i += 1;
-    }
-}
-
 // Numbers of so many bytes each; `count` is how many numbers those can stand for.
 fn write_numbers(part: &mut [u8], numbers: &[i32], width: usize, count: usize)
     requires { (length part.old ≡ width * length numbers.now) × (count ≡ 256 ^ width) × (count ≤ 4294967296) × Bounded count numbers.now }
     ensures { part.new ≡ number_bytes width numbers.now }
 {
-    let mut at: usize = 0;
-    let mut i: usize = 0;
-    while i < numbers.len() {
+    for i in 0..numbers.len() {
+        let at = width * i;
         let end = at + width;
         let word = twos_complement(numbers[i] as i64, count);
         write_unsigned(&mut part[at..end], word);
-        at = end;
-        i += 1;
     }
 }
 
@@ -53,7 +40,7 @@ fn write_duties(part: &mut [u8], duties: &[i32])
 {
     let end = 2 * duties.len();
     write_numbers(&mut part[0..end], duties, 2, 65536);
-    fill(&mut part[end..8], 0xFF);
+    part[end..].fill(0xFF);
 }
 
 // No gap and no duties: FF throughout.
@@ -62,8 +49,8 @@ fn write_unproved(part: &mut [u8], kind: usize, rounds: usize)
     ensures { part.new ≡ unproved kind rounds }
 {
     write_head(&mut part[0..4], kind, 0, rounds);
-    fill(&mut part[4..8], 0xFF);
-    fill(&mut part[8..16], 0xFF);
+    part[4..8].fill(0xFF);
+    part[8..16].fill(0xFF);
 }
 
 // The laboratory's bytes, and the sizes.
@@ -71,21 +58,10 @@ fn write_sized(part: &mut [u8], laboratory: &[u8], sizes: Sizes)
     requires { (length part.old ≡ 19) × (length laboratory.now ≡ 16) }
     ensures { part.new ≡ sized laboratory.now sizes }
 {
-    copy(&mut part[0..16], laboratory);
+    part[0..16].copy_from_slice(laboratory);
     write_unsigned(&mut part[16..17], sizes.n);
     write_unsigned(&mut part[17..18], sizes.m);
     write_unsigned(&mut part[18..19], sizes.horizon);
-}
-
-fn copy(part: &mut [u8], from: &[u8])
-    requires { length part.old ≡ length from.now }
-    ensures { part.new ≡ from.now }
-{
-    let mut i: usize = 0;
-    while i < part.len() {
-        part[i] = from[i];
-        i += 1;
-    }
 }
 
 fn write_laboratory(part: &mut [u8], rounds: usize, gap: i64, duties: &[i32])
@@ -111,11 +87,10 @@ pub fn write_proved(
     ensures service_after { service.new ≡ service_bytes (record_with sizes rounds (Proved gap plan.now multipliers.now)) }
 {
     let middle = 19 + 4 * plan.len();
-    let end = middle + 4 * multipliers.len();
     write_laboratory(laboratory, rounds, gap, &plan[..sizes.m]);
     write_sized(&mut service[0..19], laboratory, sizes);
     write_numbers(&mut service[19..middle], plan, 4, 4294967296);
-    write_numbers(&mut service[middle..end], multipliers, 4, 4294967296);
+    write_numbers(&mut service[middle..], multipliers, 4, 4294967296);
 }
 
 // What 'impossible' and 'open' have in common: all but the multipliers.
@@ -130,10 +105,9 @@ fn write_without_plan(
     ensures laboratory_after { laboratory.new ≡ unproved kind rounds }
     ensures front_after { front.new ≡ sized (unproved kind rounds) sizes ++ absent (4 * plan_count sizes) }
 {
-    let end = front.len();
     write_unproved(laboratory, kind, rounds);
     write_sized(&mut front[0..19], laboratory, sizes);
-    fill(&mut front[19..end], 0xFF);
+    front[19..].fill(0xFF);
 }
 
 pub fn write_impossible(
@@ -148,9 +122,8 @@ pub fn write_impossible(
     ensures service_after { service.new ≡ service_bytes (record_with sizes rounds (Impossible multipliers.now)) }
 {
     let middle = 19 + 4 * (sizes.horizon * (sizes.n + sizes.m));
-    let end = middle + 4 * multipliers.len();
     write_without_plan(laboratory, &mut service[0..middle], sizes, 2, rounds);
-    write_numbers(&mut service[middle..end], multipliers, 4, 4294967296);
+    write_numbers(&mut service[middle..], multipliers, 4, 4294967296);
 }
 
 pub fn write_open(laboratory: &mut [u8], service: &mut [u8], sizes: Sizes, rounds: usize)
@@ -159,7 +132,6 @@ pub fn write_open(laboratory: &mut [u8], service: &mut [u8], sizes: Sizes, round
     ensures service_after { service.new ≡ service_bytes (record_with sizes rounds Open) }
 {
     let middle = 19 + 4 * (sizes.horizon * (sizes.n + sizes.m));
-    let end = middle + 4 * (sizes.horizon * sizes.n);
     write_without_plan(laboratory, &mut service[0..middle], sizes, 3, rounds);
-    fill(&mut service[middle..end], 0xFF);
+    service[middle..].fill(0xFF);
 }

@@ -5,6 +5,7 @@ use mathlib.Core.List.{List}
 use native.Mathlib.Omega.{arith}
 use lib.ListN.{replicate}
 use lib.IntN.{ℤ, pos, ◌-ℤ◌, ◌*ℤ◌}
+use Rattle.std.specs.Prelude.{Option, Some, None}
 use Rattle.integer.proofs.Places.{zeros}
 use Rattle.tape.specs.declared.Tape.{Tape}
 use Rattle.tape.specs.declared.refusal.Refusal.TheVariants.{Open}
@@ -18,7 +19,7 @@ use Rattle.primal.proofs.Filled.{zeros-bounded}
 use Rattle.primal.proofs.HeldSteps.{states_before}
 use Rattle.primal.proofs.Lent.{lent_multipliers_at, lent_multipliers_cong, lent_plan_cong}
 use Rattle.steps.specs.declared.verdict.Verdict.{Verdict}
-use Rattle.steps.specs.declared.verdict.Verdict.TheVariants.{Proved, Impossible, Neither}
+use Rattle.steps.specs.declared.verdict.Verdict.TheVariants.{Proved, Impossible}
 use Rattle.steps.specs.Steps.{ahead, minimiser, minimisers, candidate, verdict, ascended}
 use Rattle.steps.specs.Held.{HeldWhenProved}
 use Rattle.steps.proofs.ModelStates.{model_states_cong, dropped_cong}
@@ -81,20 +82,20 @@ module _ (t : Tape) (legal : Legal t) where
         (λ k i a b. candidate-same k i a b ∙ sym (h.state k i a b))
 
     -- the plan counts only where the verdict is 'proved'
-    ended_same : (r : Verdict) (plan : List ℤ) (k : ℕ) (y : List ℤ) (after : Ending) → HeldWhenProved r t (candidate (problem_of t) (padded_plan v).u) plan →
+    ended_same : (r : Option Verdict) (plan : List ℤ) (k : ℕ) (y : List ℤ) (after : Ending) → HeldWhenProved r t (candidate (problem_of t) (padded_plan v).u) plan →
         ended r k (lent_plan t.n t.m t.horizon (candidate_of t (lent l))) y after ≡ ended r k (lent_plan t.n t.m t.horizon (padded_plan plan)) y after
-    ended_same (Proved gap) plan k y after h = ap (λ (p : List ℤ). proved k gap p y) (lent_candidate h)
-    ended_same Impossible plan k y after h = refl
-    ended_same Neither plan k y after h = refl
+    ended_same (Some (Proved gap)) plan k y after h = ap (λ (p : List ℤ). proved k gap p y) (lent_candidate h)
+    ended_same (Some Impossible) plan k y after h = refl
+    ended_same None plan k y after h = refl
 
-    round_ends : (k : ℕ) (y previous plan : List ℤ) {r : Verdict} →
+    round_ends : (k : ℕ) (y previous plan : List ℤ) {r : Option Verdict} →
         HeldMultipliers t.n t.horizon (λ s i. ahead (pos k) (padded y s i) (padded previous s i)) l → verdict t (candidate (problem_of t) (padded_plan v).u) (padded l) ≡ r →
         HeldWhenProved r t (candidate (problem_of t) (padded_plan v).u) plan → (after : List ℤ → Ending) →
         entered t k (ahead_of t k (lent y) (lent previous)) after
         ≡ ended r (k + 1) (lent_plan t.n t.m t.horizon (padded_plan plan)) (lent l) (after (ascended_of t (lent l)))
     round_ends k y previous plan {r = r} held e h after =
         ap (λ (a : List ℤ). entered t k a after) (lent_ahead k y previous held)
-        ∙ ap (λ (c : Verdict). ended c (k + 1) (lent_plan t.n t.m t.horizon (candidate_of t (lent l))) (lent l) (after (ascended_of t (lent l))))
+        ∙ ap (λ (c : Option Verdict). ended c (k + 1) (lent_plan t.n t.m t.horizon (candidate_of t (lent l))) (lent l) (after (ascended_of t (lent l))))
         (verdict-same ∙ e)
         ∙ ended_same r plan (k + 1) (lent l) _ h
 
@@ -135,7 +136,7 @@ running_start t =
 module _ {t : Tape} (legal : Legal t) {k : ℕ} {y previous : List ℤ} (running : Running t k y previous) where
   -- a round that is entered ends as its verdict says
   module _ {l v : List ℤ} (enters : k < t.rounds) (begins : Begins t k y previous l v) where
-    pub whole_is : {c : Verdict} (plan : List ℤ) → verdict t (candidate (problem_of t) (padded_plan v).u) (padded l) ≡ c →
+    pub whole_is : {c : Option Verdict} (plan : List ℤ) → verdict t (candidate (problem_of t) (padded_plan v).u) (padded l) ≡ c →
         HeldWhenProved c t (candidate (problem_of t) (padded_plan v).u) plan →
         rounds t t.rounds 0 (start t) (start t)
         ≡ ended c (k + 1) (lent_plan t.n t.m t.horizon (padded_plan plan)) (lent_of t l)
@@ -147,7 +148,7 @@ module _ {t : Tape} (legal : Legal t) {k : ℕ} {y previous : List ℤ} (running
         ∙ round_ends t legal l begins.numbers k y previous plan begins.held e h
         (λ next. rounds t (t.rounds - (k + 1)) (k + 1) next (lent_of t y))
 
-    pub running_next : verdict t (candidate (problem_of t) (padded_plan v).u) (padded l) ≡ Neither → {next : List ℤ} → NextHeld t l v next →
+    pub running_next : verdict t (candidate (problem_of t) (padded_plan v).u) (padded l) ≡ None → {next : List ℤ} → NextHeld t l v next →
         Running t (k + 1) next y
     running_next e h = record {
       early = omega arith;

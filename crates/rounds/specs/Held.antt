@@ -1,5 +1,6 @@
 -- What the private functions tell each other.
-use Rattle.std.specs.Prelude.{◌+◌, ◌*◌, Bool, true, false, cond, List, ℤ}
+use Rattle.std.specs.Prelude.{◌+◌, ◌*◌, Bool, ◌||◌, false, Option, List, ℤ}
+use Rattle.std.specs.Option.{option_map_or}
 use Rattle.std.specs.Int.Signed.{le_z, lt_z}
 use Rattle.integer.specs.Places.{Bounded}
 use Rattle.commands.specs.Ranges.{most_multiplier}
@@ -29,8 +30,8 @@ NextHeld t y v next =
     (λ k i. ascended (padded y k i) (correction t (lent_multipliers t.n t.horizon (residual (problem_of t) (padded_plan v))) (k * t.n + i))) next
 
 -- a floor of at most `upper` may be above the ceiling, or leave a gap of at most T
-unfoldable pub may_answer : Bool → ℤ → ℤ → ℤ → ℤ → Bool
-may_answer dropped gap wanted highest upper = cond (lt_z highest upper) true (cond dropped false (le_z gap wanted))
+unfoldable pub may_answer : Option ℤ → ℤ → ℤ → ℤ → Bool
+may_answer gap wanted highest upper = lt_z highest upper || option_map_or (λ g. le_z g wanted) gap false
 
 -- the end of the rounds, with the plan and the multipliers that padded arrays hold
 abbrev pub ending_of : Tape → Ended → List ℤ → List ℤ → Ending

@@ -1,6 +1,6 @@
 -- Document 01, "The rounds": the steps on multipliers as they are lent, and the rounds of a solve. Step 4 has the correction of
 -- command 50 or of document 02, request 9.
-use Rattle.std.specs.Prelude.{ℕ, zero, suc, ◌+◌, ◌*◌, List, ℤ, pos}
+use Rattle.std.specs.Prelude.{ℕ, zero, suc, ◌+◌, ◌*◌, Option, Some, None, List, ℤ, pos}
 use Rattle.tape.specs.declared.Tape.{Tape}
 use Rattle.tape.specs.declared.refusal.Refusal.{Refusal}
 use Rattle.tape.specs.declared.refusal.Refusal.TheVariants.{Open}
@@ -44,10 +44,10 @@ pub data Ending : Type 0 where
   refused : Refusal → Ending
 
 -- A round's verdict ends the solve with the rounds entered, or leaves it to the rounds after it.
-abbrev pub ended : Verdict → ℕ → List ℤ → List ℤ → Ending → Ending
-ended (verdicts.Proved gap) rounds plan y after = proved rounds gap plan y
-ended verdicts.Impossible rounds plan y after = impossible rounds y
-ended verdicts.Neither rounds plan y after = after
+abbrev pub ended : Option Verdict → ℕ → List ℤ → List ℤ → Ending → Ending
+ended (Some (verdicts.Proved gap)) rounds plan y after = proved rounds gap plan y
+ended (Some verdicts.Impossible) rounds plan y after = impossible rounds y
+ended None rounds plan y after = after
 
 -- Steps 2 to 4 of round k, from y~; `after` are the rounds after it, from the next y.
 abbrev pub entered : Tape → ℕ → List ℤ → (List ℤ → Ending) → Ending

@@ -13,7 +13,7 @@ ghost use Rattle.problem.specs.Dual.{ceiling};
 ghost use Rattle.primal.specs.Terms.{TermsOf};
 ghost use Rattle.primal.specs.Held.{BlankMultipliers, BlankPlan};
 ghost use Rattle.banded.specs.Step.{uses_band};
-ghost use Rattle.banded.specs.Rows.{TapeRows, RowsWhen};
+ghost use Rattle.banded.specs.Rows.{TapeRows, Factored};
 ghost use Rattle.lookup.specs.Table.{RowsOf};
 ghost use Rattle.rounds.specs.declared.Ended.TheVariants as ends;
 ghost use Rattle.rounds.specs.Running.{rounds, start};
@@ -21,8 +21,8 @@ ghost use Rattle.rounds.specs.Held.{ending_of, NextHeld};
 
 use crate::verdict::{may_answer, weigh};
 use ascent::ascend_by_band;
+use banded::factored_of;
 use banded::rows::Row;
-use banded::{Eliminated, factored_of};
 use lookup::minimise::minimise;
 use lookup::table::table_of;
 use passes::ascend::ascend;
@@ -108,8 +108,8 @@ impl Outcome {
 }
 
 // Step 4 by command 51, from the numbers v of step 2.
-fn next_by_band(t: Tape, rows: [Row; 72], ahead: [i64; 72], v: [i64; 120]) -> [i64; 72]
-    requires legal { Legal t × (uses_band t ≡ true) × TapeRows t rows × BlankMultipliers t.n ahead × Bounded most_multiplier ahead }
+fn next_by_band(t: Tape, rows: &[Row; 72], ahead: [i64; 72], v: [i64; 120]) -> [i64; 72]
+    requires legal { Legal t × (uses_band t ≡ true) × TapeRows t rows.now × BlankMultipliers t.n ahead × Bounded most_multiplier ahead }
     requires blank_plan { BlankPlan t.n t.m v × Bounded most_number v }
     ensures { NextHeld t ahead v result }
 {
@@ -117,11 +117,17 @@ fn next_by_band(t: Tape, rows: [Row; 72], ahead: [i64; 72], v: [i64; 120]) -> [i
     ascend_by_band(t, rows, ahead, e)
 }
 
-// The rounds, from what is made once a solve: the table of the terms, the eliminated rows and the
-// ceiling.
-fn search(t: Tape, terms: Terms, table: [i64; 840], factored: Eliminated, highest: i64) -> Outcome
+// The rounds, from what is made once a solve: the table of the terms, the eliminated rows, where the
+// tape is solved by them, and the ceiling.
+fn search(
+    t: Tape,
+    terms: Terms,
+    table: [i64; 840],
+    factored: &Option<[Row; 72]>,
+    highest: i64,
+) -> Outcome
     requires legal { Legal t × TermsOf t terms.penalty terms.low terms.high terms.reference × (highest ≡ ceiling (problem_of t)) }
-    requires rows_of { RowsOf terms.penalty terms.low terms.high terms.reference table × (factored.usable ≡ uses_band t) × RowsWhen factored.usable t factored.rows }
+    requires rows_of { RowsOf terms.penalty terms.low terms.high terms.reference table × Factored t factored.now }
     ensures t_value { rounds t t.rounds 0 (start t) (start t) ≡ ending_of t result.ended result.plan result.multipliers }
     ensures bounded { Bounded most_number result.plan × Bounded most_multiplier result.multipliers }
 {
@@ -129,10 +135,8 @@ fn search(t: Tape, terms: Terms, table: [i64; 840], factored: Eliminated, highes
     let horizon = t.horizon;
     let gain = t.gain;
     let wanted = t.wanted;
-    let rows = factored.rows;
     let mut state = RoundState::start();
-    let mut k: usize = 0;
-    while k < t.rounds {
+    for k in 0..t.rounds {
         let mut y = [0i64; 72];
         multipliers_ahead(&mut y, &state.current, &state.previous, k as i64, horizon);
         let mut v = [0i64; 120];
@@ -141,20 +145,20 @@ fn search(t: Tape, terms: Terms, table: [i64; 840], factored: Eliminated, highes
         force(&mut forced, &t.b, &t.drift, &v, horizon);
         let mut next = [0i64; 72];
         let pull = ascend(&mut next, &t.a, &forced, &t.start, &v, &y, gain, horizon);
-        if factored.usable {
+        if let Some(rows) = factored {
             next = next_by_band(t, rows, y, v);
         }
         let followed = follow(&mut v, &table, &t.a, &forced, &t.start, n, horizon);
-        let cost = costs.inputs + followed.cost;
+        let cost = followed.map(|states| costs.inputs + states);
         let upper = costs.inputs + costs.states + pull;
-        let least = cost - upper;
-        k += 1;
-        if may_answer(followed.dropped, least, wanted, highest, upper) {
-            let verdict = weigh(t, terms, y, highest, followed.dropped, cost);
-            match verdict {
-                Verdict::Proved(gap) => return Outcome::at_end(Ended::Proved(k, gap), v, y),
-                Verdict::Impossible => return Outcome::impossible(k, y),
-                Verdict::Neither => {}
+        let least = cost.map(|cost| cost - upper);
+        if may_answer(least, wanted, highest, upper) {
+            match weigh(t, terms, y, highest, cost) {
+                Some(Verdict::Proved(gap)) => {
+                    return Outcome::at_end(Ended::Proved(k + 1, gap), v, y);
+                }
+                Some(Verdict::Impossible) => return Outcome::impossible(k + 1, y),
+                None => {}
             }
         }
         state = state.next(next);
@@ -175,5 +179,5 @@ pub fn run_rounds(t: Tape, terms: Terms) -> Outcome
         t.horizon,
     );
     let table = table_of(&terms.penalty, &terms.low, &terms.high, &terms.reference);
-    search(t, terms, table, factored_of(t), highest)
+    search(t, terms, table, &factored_of(t), highest)
 }

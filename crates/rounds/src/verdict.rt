@@ -1,5 +1,5 @@
 // Step 3: whether a round can answer, and its verdict.
-ghost use Rattle.std.specs.Prelude.{◌≤◌, ◌≡◌, nat_abs, ◌-ℤ◌};
+ghost use Rattle.std.specs.Prelude.{◌≤◌, ◌≡◌, IfSome, option_map, nat_abs, ◌-ℤ◌};
 ghost use Rattle.integer.specs.Places.{Bounded};
 ghost use Rattle.commands.specs.Ranges.{most_multiplier};
 ghost use Rattle.tape.specs.Legal.{Legal};
@@ -16,25 +16,25 @@ use primal::terms::Terms;
 use steps::verdict::{Verdict, verdict_of};
 use tape::Tape;
 
-// Whether a floor that is at most `upper` can give an answer. The gap is the cost less `upper`, so no
-// gap is below it.
-pub fn may_answer(dropped: bool, gap: i64, wanted: i64, highest: i64, upper: i64) -> bool
-    ensures { result ≡ may_answer dropped gap wanted highest upper }
+// Whether a floor that is at most `upper` can give an answer. The gap, unless the candidate is dropped,
+// is the cost less `upper`, so no gap is below it.
+pub fn may_answer(gap: Option<i64>, wanted: i64, highest: i64, upper: i64) -> bool
+    ensures { result ≡ may_answer gap wanted highest upper }
 {
-    if highest < upper {
-        return true;
-    }
-    if dropped {
-        return false;
-    }
-    gap <= wanted
+    highest < upper || gap.is_some_and(|gap| gap <= wanted)
 }
 
-// The verdict on a candidate and its cost, by the floor of y.
-pub fn weigh(t: Tape, terms: Terms, y: [i64; 72], highest: i64, dropped: bool, cost: i64) -> Verdict
+// The verdict on a candidate by its cost, unless it is dropped, and by the floor of y.
+pub fn weigh(
+    t: Tape,
+    terms: Terms,
+    y: [i64; 72],
+    highest: i64,
+    cost: Option<i64>,
+) -> Option<Verdict>
     requires legal { Legal t × TermsOf t terms.penalty terms.low terms.high terms.reference × BlankMultipliers t.n y × Bounded most_multiplier y }
-    requires cost_bound { nat_abs cost ≤ 200540160000000000 }
-    ensures { result ≡ verdict_by dropped (cost -ℤ floor (problem_of t) (padded y)) t.wanted highest (floor (problem_of t) (padded y)) }
+    requires cost_bound { IfSome cost (λ k. nat_abs k ≤ 200540160000000000) }
+    ensures { result ≡ verdict_by (option_map (λ k. k -ℤ floor (problem_of t) (padded y)) cost) t.wanted highest (floor (problem_of t) (padded y)) }
 {
     let floor = floor_of(
         &t.a,
@@ -48,5 +48,5 @@ pub fn weigh(t: Tape, terms: Terms, y: [i64; 72], highest: i64, dropped: bool, c
         &y,
         t.horizon,
     );
-    verdict_of(dropped, cost - floor, t.wanted, highest, floor)
+    verdict_of(cost.map(|cost| cost - floor), t.wanted, highest, floor)
 }

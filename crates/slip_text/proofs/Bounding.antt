@@ -4,6 +4,7 @@ use mathlib.Core.Path.{◌≡◌, refl}
 use mathlib.Core.List.{List}
 use lib.ListN.{take}
 use lib.IntN.{ℤ}
+use Rattle.std.specs.Prelude.{Ok}
 use Rattle.integer.proofs.Operand.{Bytes}
 use Rattle.ranges.specs.Ranges.{first_ranges, NearPlan}
 use Rattle.ranges.proofs.Duties.{near_plan}
@@ -23,7 +24,7 @@ module _ (s : List ℕ) (bytes : Bytes s) where
   abbrev y : List ℤ
   y = take (multiplier_numbers r.tape) r.multipliers
 
-  pub slip-near : {rounds : ℕ} {gap : ℤ} {first : Duties} → r.answer ≡ Proved rounds gap first → NearPlan r.tape plan y (first_ranges r.tape y gap)
+  pub slip-near : {rounds : ℕ} {gap : ℤ} {first : Duties} → r.answer ≡ Ok (Proved rounds gap first) → NearPlan r.tape plan y (first_ranges r.tape y gap)
   slip-near proved =
       let gap_is = (proved_accepted s bytes r refl proved).reported in
       rw gap_is (near_plan r.tape (proved_granted s bytes r refl proved).lawful plan y (rw gap_is at (proved_nonneg s bytes r refl proved)))

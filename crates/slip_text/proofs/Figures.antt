@@ -5,6 +5,7 @@ use mathlib.Core.Path.{◌≡◌, refl, ap}
 use mathlib.Core.List.{List, [], ◌∷◌, ◌++◌, map}
 use lib.IntN.{pos, negsuc}
 use lib.ListN.{take}
+use Rattle.std.specs.Prelude.{Err}
 use Rattle.integer.specs.Limited.{limited}
 use Rattle.integer.specs.Operand.{unsigned, signed}
 use Rattle.integer.specs.Quotient.{◌÷◌, quotient_up}
@@ -24,7 +25,6 @@ use Rattle.ascent.specs.Correction.{correction}
 use Rattle.primal.specs.Lent.{listed, joined}
 use Rattle.rounds.specs.Running.{rounds}
 use Rattle.solver.specs.declared.Duties.{Duties}
-use Rattle.solver.specs.declared.Solved.TheVariants.{Refused}
 use Rattle.solver.specs.Solving.{duty, solving_on, solving}
 use Rattle.ranges.specs.declared.Ranges.{Ranges}
 use Rattle.ranges.specs.declared.range.Range.{Range}
@@ -60,7 +60,7 @@ table =
     -- m beyond 1 to 4
     ∷ (proved_lines 1 (pos 9) four apart 0, "proved\nrounds 1\ngap 9\nfirst\n")
     ∷ (proved_lines 1 (pos 9) four apart 5, "proved\nrounds 1\ngap 9\nfirst -20000 0 10 -9\nrange -20000 20000\nrange 0 0\nrange 9 11\nrange -10 -9\n")
-    ∷ (slip (Refused Length) (solution_of F).tape [], "refused 9\n")
+    ∷ (slip (Err Length) (solution_of F).tape [], "refused 9\n")
     ∷ []
 
 pub figures : map (λ f. f.0) table ≡ map (λ f. text f.1) table

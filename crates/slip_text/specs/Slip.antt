@@ -1,12 +1,13 @@
 -- Document 01, "Firing slip": the lines that the printing program writes.
-use Rattle.std.specs.Prelude.{ℕ, ◌-◌, List, [], ◌∷◌, ◌++◌, length, take, replicate, ℤ}
+use Rattle.std.specs.Prelude.{ℕ, ◌-◌, List, [], ◌∷◌, ◌++◌, length, take, replicate, ℤ, Result, Ok, Err}
 use Rattle.tape.specs.declared.Tape.{Tape}
+use Rattle.tape.specs.declared.refusal.Refusal.{Refusal}
 use Rattle.tape.specs.declared.refusal.Carried.{Carried}
 use Rattle.tape.specs.declared.refusal.Carried.TheVariants.{Place, Nothing, Fault, Span, Rounds}
 use Rattle.tape.specs.Refusals.{row}
 use Rattle.solver.specs.declared.Duties.{Duties}
 use Rattle.solver.specs.declared.Solved.{Solved}
-use Rattle.solver.specs.declared.Solved.TheVariants.{Proved, Impossible, Refused}
+use Rattle.solver.specs.declared.Solved.TheVariants.{Proved, Impossible}
 use Rattle.ranges.specs.declared.Ranges.{Ranges}
 use Rattle.ranges.specs.declared.range.Range.{Range}
 use Rattle.ranges.specs.Ranges.{first_ranges}
@@ -59,10 +60,10 @@ refusal_lines number (Span span) = line (refused_number number)
 refusal_lines number (Rounds R) = line (text "open") ++ rounds_line R
 
 -- The slip of a solve's answer on a tape: the ranges are by the gap and the multipliers y that the solve left.
-abbrev pub slip : Solved → Tape → List ℤ → List ℕ
-slip (Proved R gap first) t y = proved_lines R gap first (first_ranges t y gap) t.m
-slip (Impossible R) t y = line (text "impossible") ++ rounds_line R
-slip (Refused why) t y = refusal_lines (row why).number (row why).carries
+abbrev pub slip : Result Solved Refusal → Tape → List ℤ → List ℕ
+slip (Ok (Proved R gap first)) t y = proved_lines R gap first (first_ranges t y gap) t.m
+slip (Ok (Impossible R)) t y = line (text "impossible") ++ rounds_line R
+slip (Err why) t y = refusal_lines (row why).number (row why).carries
 
 -- The slip of a tape.
 abbrev pub tape_slip : List ℕ → List ℕ

@@ -18,16 +18,14 @@ pub fn tape_slip(tape: &[u8]) -> Text
     ensures { result ≡ text_of (tape_slip tape.now) }
 {
     let solution = solve_tape(tape);
-    let answer = solution.answer;
     let numbers = solution.tape;
-    let multipliers = solution.multipliers;
-    match answer {
-        Solved::Proved(rounds, gap, first) => {
+    match solution.answer {
+        Ok(Solved::Proved(rounds, gap, first)) => {
             let q = numbers.horizon * numbers.n;
-            let ranges = first_ranges(numbers, &multipliers[..q], gap);
+            let ranges = first_ranges(numbers, &solution.multipliers[..q], gap);
             proved(rounds, gap, first, ranges, numbers.m)
         }
-        Solved::Impossible(rounds) => kind_and_rounds(b"impossible\n", rounds),
-        Solved::Refused(why) => refused(why),
+        Ok(Solved::Impossible(rounds)) => kind_and_rounds(b"impossible\n", rounds),
+        Err(why) => refused(why),
     }
 }

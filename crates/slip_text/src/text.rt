@@ -38,10 +38,8 @@ impl Text {
         ensures { Appended self word.now (length word.now) result }
     {
         let mut text = self;
-        let mut i: usize = 0;
-        while i < word.len() {
-            text = text.with_byte(word[i]);
-            i += 1;
+        for b in word {
+            text = text.with_byte(*b);
         }
         text
     }

@@ -5,7 +5,9 @@ use mathlib.Core.List.{List, ◌++◌}
 use lib.ListN.{length, take, drop, length-replicate}
 use lib.Seq.{take_at}
 use lib.IntN.{ℤ, pos}
+use Rattle.std.specs.Prelude.{Result}
 use Rattle.tape.specs.declared.Tape.{Tape}
+use Rattle.tape.specs.declared.refusal.Refusal.{Refusal}
 use Rattle.tape.specs.Reading.{reading}
 use Rattle.tape.specs.Tape.{zeros}
 use Rattle.rounds.specs.Running.{Ending}
@@ -34,11 +36,11 @@ module _ (s : List ℕ) where
   ending = solving s lent_plan lent_multipliers
 
   -- the result: each array has what the call left, then the zeros that were not lent
-  abbrev made : Solved → List ℤ → List ℤ → Solution
+  abbrev made : Result Solved Refusal → List ℤ → List ℤ → Solution
   made answer plan y =
       record { answer = answer; tape = t; plan = plan ++ drop (plan_numbers t) (zeros 120); multipliers = y ++ drop (multiplier_numbers t) (zeros 72) }
 
-  pub solution_promise : {answer : Solved} (plan y : List ℤ) → Room t → length plan ≡ length lent_plan → length y ≡ length lent_multipliers →
+  pub solution_promise : {answer : Result Solved Refusal} (plan y : List ℤ) → Room t → length plan ≡ length lent_plan → length y ≡ length lent_multipliers →
       answer ≡ answer_of t ending → plan ≡ plan_left ending lent_plan → y ≡ multipliers_left ending lent_multipliers → Upheld answer t plan y →
       (made answer plan y ≡ solution_of s)
       × Upheld answer t (take (plan_numbers t) (made answer plan y).plan) (take (multiplier_numbers t) (made answer plan y).multipliers)

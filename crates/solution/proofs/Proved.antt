@@ -6,12 +6,12 @@ use native.Mathlib.Omega.{arith}
 use lib.ListN.{length, length-append, take}
 use lib.Seq.{take_at}
 use lib.IntN.{ℤ, pos}
+use Rattle.std.specs.Prelude.{Ok}
 use Rattle.integer.specs.Order.{◌≼◌}
 use Rattle.integer.proofs.Operand.{Bytes}
 use Rattle.tape.specs.declared.Tape.{Tape}
 use Rattle.tape.specs.Reading.{reading}
 use Rattle.tape.specs.Tape.{zeros}
-use Rattle.judge.specs.declared.Judged.TheVariants.{Gap}
 use Rattle.judge.specs.Demand.{NoneCheaper}
 use Rattle.judge.specs.Judging.{judged}
 use Rattle.judge.proofs.Granted.{Granted, granted, accepted, gap_nonneg}
@@ -33,8 +33,8 @@ module _ (s : List ℕ) (bytes : Bytes s) where
   abbrev y : List ℤ
   y = multipliers_left (ending_on s t) (zeros (multiplier_numbers t))
 
-  module _ {rounds : ℕ} {gap : ℤ} {first : Duties} (r : Solution) (is : r ≡ solution_of s) (proved : r.answer ≡ Proved rounds gap first) where
-    again : judged s plan y ≡ Gap gap
+  module _ {rounds : ℕ} {gap : ℤ} {first : Duties} (r : Solution) (is : r ≡ solution_of s) (proved : r.answer ≡ Ok (Proved rounds gap first)) where
+    again : judged s plan y ≡ Ok gap
     unfolding solution_of
     again = rw (rw is at proved) at (judged_again s (zeros (plan_numbers t)) (zeros (multiplier_numbers t)))
 

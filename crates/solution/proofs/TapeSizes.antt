@@ -12,8 +12,9 @@ use Rattle.integer.proofs.Operand.{Bytes}
 use Rattle.tape.specs.Legal.{Legal}
 use Rattle.tape.specs.Reading.{Reader, Verdict, Going, Ended, Refused, next, outcome, opened, read_from, reading}
 use Rattle.tape.specs.Tape.{blank, zeros}
-use Rattle.tape.specs.declared.Answer.TheVariants.{Accepted}
-use Rattle.tape.specs.declared.Reading.{Reading}
+use Rattle.tape.specs.Answer.{Accepted, Reading}
+use Rattle.tape.specs.Answer as answer
+use Rattle.tape.specs.declared.refusal.Refusal.{Refusal}
 use Rattle.tape.specs.declared.Tape.{Tape}
 use Rattle.tape.proofs.Facts.{legal}
 use Rattle.solution.specs.Solution.{plan_numbers, multiplier_numbers}
@@ -34,6 +35,9 @@ read_all s = go (length s) opened
     go : (left : ℕ) (q : Reader) → Read (read_from s left q)
     go zero q = inr refl
     go (suc left) q = let r = next s q in told r.verdict r.tape (read_from s left r) (go left r)
+
+pub refused_blank : (s : List ℕ) {why : Refusal} → (reading s).answer ≡ answer.Refused why → (reading s).tape ≡ blank
+refused_blank s e = ⊎_elim (λ a. let no = sym a ∙ e in cc) (λ b. b) (read_all s)
 
 -- the numbers that a plan and its multipliers have
 pub record Room (t : Tape) : Type 0 where

@@ -8,15 +8,17 @@ use borrow.Author.Tests.{eq-eqb}
 use lib.ListN.{length}
 use lib.IntN.{ℤ, pos}
 use lib.Signed.{le_z}
+use Rattle.std.specs.Prelude.{Result, Ok, Err}
 use Rattle.integer.specs.Places.{Bounded}
 use Rattle.integer.specs.Tests.{any}
 use Rattle.integer.proofs.Order.{order}
 use Rattle.integer.proofs.Operand.{Bytes}
 use Rattle.integer.proofs.Tests.{by_test, None, none, in_range, not_less, any_none}
 use Rattle.commands.specs.Ranges.{most_multiplier}
-use Rattle.tape.specs.declared.Answer.{Answer}
-use Rattle.tape.specs.declared.Answer.TheVariants as answer
+use Rattle.tape.specs.Answer.{Answer}
+use Rattle.tape.specs.Answer as answer
 use Rattle.tape.specs.declared.Tape.{Tape}
+use Rattle.tape.specs.declared.refusal.Refusal.{Refusal}
 use Rattle.tape.specs.Reading.{reading}
 use Rattle.problem.specs.Model.{Problem, Plan, problem_of, plan_of, multipliers_of, rounded}
 use Rattle.problem.specs.Cost.{Follows}
@@ -25,8 +27,6 @@ use Rattle.problem.proofs.Congruence.{model_cong, cost_cong}
 use Rattle.primal.proofs.HeldSteps.{states_before}
 use Rattle.lent.specs.Checks.{wrong_plan_length, wrong_multipliers_length}
 use Rattle.lent.proofs.LentMultipliers.{bounded_multipliers}
-use Rattle.judge.specs.declared.Judged.TheVariants.{Gap}
-use Rattle.judge.specs.declared.Shown.TheVariants.{Shown}
 use Rattle.judge.specs.Judging.{gap_within, judged_on, judged, shown_on, shown}
 use Rattle.judge.proofs.Accepted.{passes, backed, founded}
 use Rattle.steps.specs.Steps.{model_states, candidate, exceeds, dropped, gap, verdict}
@@ -36,7 +36,7 @@ use Rattle.primal.specs.Lent.{lent_plan}
 use Rattle.rounds.specs.Running.{ahead_of, candidate_of, Ending, proved, impossible, refused, ended, rounds}
 use Rattle.primal.proofs.Lent.{length_lent_multipliers, lent_multipliers_bounded, length_lent_plan, lent_plan_input, lent_plan_state}
 use Rattle.solver.specs.declared.Solved.{Solved}
-use Rattle.solver.specs.declared.Solved.TheVariants.{Proved, Impossible, Refused}
+use Rattle.solver.specs.declared.Solved.TheVariants.{Proved, Impossible}
 use Rattle.solver.specs.Solving.{solving_on, ending_after_read, solving, first_duties, answer_of, plan_left, multipliers_left}
 use Rattle.solver.specs.Demand.{Upheld, JudgedAgain, RoundsWithin}
 
@@ -84,7 +84,7 @@ abbrev written_gap : Tape → List ℤ → ℤ
 written_gap t y = gap (problem_of t) (candidate_of t y) (multipliers_of t.n y)
 
 module _ (t : Tape) (y : List ℤ) (long : length y ≡ t.horizon * t.n) (bounded : Bounded most_multiplier y) where
-  gap_again : dropped (problem_of t) (candidate_of t y) ≡ false → le_z (written_gap t y) t.wanted ≡ true → judged_on t (written t y) y ≡ Gap (written_gap t y)
+  gap_again : dropped (problem_of t) (candidate_of t y) ≡ false → le_z (written_gap t y) t.wanted ≡ true → judged_on t (written t y) y ≡ Ok (written_gap t y)
   unfolding judged_on gap_within
   gap_again d g =
       let v = candidate_of t y in
@@ -100,7 +100,7 @@ module _ (t : Tape) (y : List ℤ) (long : length y ≡ t.horizon * t.n) (bounde
         not_less t.wanted (written_gap t y) (omega (arith, order)),
       )
 
-  shown_again : shows (problem_of t) (multipliers_of t.n y) ≡ true → shown_on t y ≡ Shown
+  shown_again : shows (problem_of t) (multipliers_of t.n y) ≡ true → shown_on t y ≡ Ok tt
   unfolding shown_on
   shown_again e = rw (eq-eqb _ _ long, bounded_multipliers y bounded, e)
 
@@ -149,10 +149,10 @@ module _ (s : List ℕ) (plan y : List ℤ) where
 -- ---- What `solve` promises
 
 -- the u(0) of an answer is that of the plan left
-abbrev FirstOf : Solved → ℕ → List ℤ → Type 0
-FirstOf (Proved rounds gap first) m plan = first ≡ first_duties m plan
-FirstOf (Impossible rounds) m plan = Unit {0}
-FirstOf (Refused why) m plan = Unit {0}
+abbrev FirstOf : Result Solved Refusal → ℕ → List ℤ → Type 0
+FirstOf (Ok (Proved rounds gap first)) m plan = first ≡ first_duties m plan
+FirstOf (Ok (Impossible rounds)) m plan = Unit {0}
+FirstOf (Err why) m plan = Unit {0}
 
 first_of : (t : Tape) (e : Ending) (plan : List ℤ) → FirstOf (answer_of t e) t.m (plan_left e plan)
 first_of t (proved rounds gap plan y) before = refl
@@ -160,17 +160,17 @@ first_of t (impossible rounds y) before = tt
 first_of t (refused why) before = tt
 
 -- what the judge says is backed
-upheld_by : (r : Solved) (s : List ℕ) (plan y : List ℤ) → Bytes s → JudgedAgain r s plan y → FirstOf r (reading s).tape.m plan →
+upheld_by : (r : Result Solved Refusal) (s : List ℕ) (plan y : List ℤ) → Bytes s → JudgedAgain r s plan y → FirstOf r (reading s).tape.m plan →
     Upheld r (reading s).tape plan y
-upheld_by (Proved rounds gap first) s plan y b e f = (rw e at (backed s plan y b), f)
-upheld_by (Impossible rounds) s plan y b e f = rw e at (founded s y b)
-upheld_by (Refused why) s plan y b e f = tt
+upheld_by (Ok (Proved rounds gap first)) s plan y b e f = (rw e at (backed s plan y b), f)
+upheld_by (Ok (Impossible rounds)) s plan y b e f = rw e at (founded s y b)
+upheld_by (Err why) s plan y b e f = tt
 
 module _ (s : List ℕ) (plan y : List ℤ) where
   abbrev ending : Ending
   ending = solving s plan y
 
-  abbrev solved : Solved
+  abbrev solved : Result Solved Refusal
   solved = answer_of (reading s).tape ending
 
   pub rounds-within : RoundsWithin solved (reading s).tape.rounds
@@ -183,7 +183,7 @@ module _ (s : List ℕ) (plan y : List ℤ) where
   upheld b = upheld_by solved s (plan_left ending plan) (multipliers_left ending y) b judged_again (first_of (reading s).tape ending plan)
 
   -- all clauses from the first three
-  pub solve_promise : {r : Solved} {plan' y' : List ℤ} → Bytes s → r ≡ solved → plan' ≡ plan_left ending plan → y' ≡ multipliers_left ending y →
+  pub solve_promise : {r : Result Solved Refusal} {plan' y' : List ℤ} → Bytes s → r ≡ solved → plan' ≡ plan_left ending plan → y' ≡ multipliers_left ending y →
       (r ≡ solved) × ((plan' ≡ plan_left ending plan) × ((y' ≡ multipliers_left ending y)
       × (RoundsWithin r (reading s).tape.rounds × (JudgedAgain r s plan' y' × Upheld r (reading s).tape plan' y'))))
   solve_promise b e p m = (e, (p, (m, (rw e rounds-within, (rw (e, p, m) judged_again, rw (e, p, m) (upheld b))))))

@@ -4,6 +4,7 @@ use Prim.Native.Nat.{ℕ}
 use mathlib.Core.Path.{◌≡◌, refl}
 use mathlib.Core.List.{List, [], ◌∷◌, ◌++◌, map}
 use lib.IntN.{ℤ, pos, negsuc}
+use Rattle.std.specs.Prelude.{Result, Ok, Err}
 use Rattle.integer.specs.Limited.{limited}
 use Rattle.integer.specs.Operand.{unsigned, signed}
 use Rattle.integer.specs.Quotient.{◌÷◌, quotient_up}
@@ -22,10 +23,6 @@ use Rattle.problem.specs.Cost.{total, cost, plan_cost}
 use Rattle.problem.specs.Dual.{input_slope, adjoint, carried, state_slope, unweighted, conjugate, tilt, piece, pieces, constant, sizes, floor, larger, most, ceiling}
 use Rattle.problem.proofs.Figures.{bytes, with_weights, wide, narrow, ample, ramp, rows, table}
 use Rattle.lent.specs.Checks.{first, tested, state_check, step_check, plan_check}
-use Rattle.judge.specs.declared.Judged.{Judged}
-use Rattle.judge.specs.declared.Judged.TheVariants as judgement
-use Rattle.judge.specs.declared.Shown.{Shown}
-use Rattle.judge.specs.declared.Shown.TheVariants as showing
 use Rattle.judge.specs.Judging.{gap_within, judged_on, judged, shown_on, shown}
 use Rattle.steps.specs.Steps.{ahead, minimiser, model_states, dropped, verdict, ascended}
 use Rattle.ascent.specs.Correction.{correction}
@@ -44,13 +41,13 @@ carried_row (carries.Rounds R) = pos R ∷ []
 abbrev refusal : Refusal → List ℤ
 refusal why = pos (row why).number ∷ carried_row (row why).carries
 
-abbrev judgement_row : Judged → List ℤ
-judgement_row (judgement.Gap gap) = pos 0 ∷ gap ∷ []
-judgement_row (judgement.Refused why) = refusal why
+abbrev judgement_row : Result ℤ Refusal → List ℤ
+judgement_row (Ok gap) = pos 0 ∷ gap ∷ []
+judgement_row (Err why) = refusal why
 
-abbrev shown-row : Shown → List ℤ
-shown-row showing.Shown = pos 0 ∷ []
-shown-row (showing.Refused why) = refusal why
+abbrev shown-row : Result (Unit {0}) Refusal → List ℤ
+shown-row (Ok tt) = pos 0 ∷ []
+shown-row (Err why) = refusal why
 
 -- of a solve: 0, the rounds, the gap, the plan and the multipliers
 abbrev ending_row : Ending → List ℤ

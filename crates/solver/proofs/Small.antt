@@ -8,9 +8,10 @@ use lib.ListN.{length}
 use lib.IntN.{ℤ}
 use Rattle.integer.proofs.Operand.{Bytes}
 use Rattle.integer.proofs.Tests.{by_test}
+use Rattle.std.specs.Prelude.{Option, Some, None, Result, Ok, Err}
 use Rattle.commands.proofs.Extent.{deciding_bytes_lem}
-use Rattle.tape.specs.declared.Answer.{Answer}
-use Rattle.tape.specs.declared.Answer.TheVariants as answer
+use Rattle.tape.specs.Answer.{Answer}
+use Rattle.tape.specs.Answer as answer
 use Rattle.tape.specs.declared.Tape.{Tape}
 use Rattle.tape.specs.declared.refusal.Refusal.{Refusal}
 use Rattle.tape.specs.Reading.{reading}
@@ -20,7 +21,7 @@ use Rattle.tape.proofs.Offsets.{Bounds, bounds}
 use Rattle.problem.specs.Model.{multipliers_of}
 use Rattle.lent.specs.Checks.{wrong_plan_length, wrong_multipliers_length}
 use Rattle.steps.specs.declared.verdict.Verdict.{Verdict}
-use Rattle.steps.specs.declared.verdict.Verdict.TheVariants.{Proved, Impossible, Neither}
+use Rattle.steps.specs.declared.verdict.Verdict.TheVariants.{Proved, Impossible}
 use Rattle.steps.specs.Steps.{verdict}
 use Rattle.primal.specs.Lent.{lent_plan}
 use Rattle.rounds.specs.Running.{ahead_of, candidate_of, ascended_of, Ending, ended, rounds}
@@ -47,10 +48,10 @@ small_read s = from-tape (length s) (reading s).answer (bounds s)
 
 -- ---- Solving
 
-abbrev pub SmallSolved : Solved → Type 0
-SmallSolved (solved.Proved rounds gap first) = rounds ≤ 10000
-SmallSolved (solved.Impossible rounds) = rounds ≤ 10000
-SmallSolved (solved.Refused why) = Small why
+abbrev pub SmallSolved : Result Solved Refusal → Type 0
+SmallSolved (Ok (solved.Proved rounds gap first)) = rounds ≤ 10000
+SmallSolved (Ok (solved.Impossible rounds)) = rounds ≤ 10000
+SmallSolved (Err why) = Small why
 
 data SmallEnding : Ending → Type 0 where
   proved : {rounds : ℕ} {gap : ℤ} {plan y : List ℤ} → rounds ≤ 10000 → SmallEnding (running.proved rounds gap plan y)
@@ -62,10 +63,10 @@ small_answer t (proved h) = h
 small_answer t (impossible h) = h
 small_answer t (refused h) = h
 
-small_round : (k : ℕ) {after : Ending} (v : Verdict) (plan y : List ℤ) → k ≤ 10000 → SmallEnding after → SmallEnding (ended v k plan y after)
-small_round k (Proved gap) plan y h a = proved h
-small_round k Impossible plan y h a = impossible h
-small_round k Neither plan y h a = a
+small_round : (k : ℕ) {after : Ending} (v : Option Verdict) (plan y : List ℤ) → k ≤ 10000 → SmallEnding after → SmallEnding (ended v k plan y after)
+small_round k (Some (Proved gap)) plan y h a = proved h
+small_round k (Some Impossible) plan y h a = impossible h
+small_round k None plan y h a = a
 
 small_rounds : (t : Tape) (left k : ℕ) (y previous : List ℤ) → t.rounds ≤ 10000 → k + left ≤ t.rounds → SmallEnding (rounds t left k y previous)
 unfolding rounds

@@ -1,10 +1,11 @@
 -- Document 01, "Calls": what a solve answers, and what it leaves in the lent slices.
-use Rattle.std.specs.Prelude.{ℕ, cond, ◌||◌, List, ltb, ℤ, pos}
+use Rattle.std.specs.Prelude.{ℕ, cond, ◌||◌, List, ltb, ℤ, pos, Result, Ok, Err}
 use Rattle.integer.specs.Places.{at}
 use Rattle.tape.specs.Reading.{reading}
-use Rattle.tape.specs.declared.Answer.{Answer}
-use Rattle.tape.specs.declared.Answer.TheVariants as answer
+use Rattle.tape.specs.Answer.{Answer}
+use Rattle.tape.specs.Answer as answer
 use Rattle.tape.specs.declared.Tape.{Tape}
+use Rattle.tape.specs.declared.refusal.Refusal.{Refusal}
 use Rattle.tape.specs.declared.refusal.Refusal.TheVariants.{Length}
 use Rattle.lent.specs.Checks.{wrong_plan_length, wrong_multipliers_length}
 use Rattle.rounds.specs.Running.{Ending, proved, impossible, refused, rounds, start}
@@ -32,10 +33,10 @@ abbrev pub first_duties : ℕ → List ℤ → Duties
 first_duties m plan = record { u0 = duty m plan 0; u1 = duty m plan 1; u2 = duty m plan 2; u3 = duty m plan 3 }
 
 -- The answer.
-abbrev pub answer_of : Tape → Ending → Solved
-answer_of t (proved rounds gap plan y) = solved.Proved rounds gap (first_duties t.m plan)
-answer_of t (impossible rounds y) = solved.Impossible rounds
-answer_of t (refused why) = solved.Refused why
+abbrev pub answer_of : Tape → Ending → Result Solved Refusal
+answer_of t (proved rounds gap plan y) = Ok (solved.Proved rounds gap (first_duties t.m plan))
+answer_of t (impossible rounds y) = Ok (solved.Impossible rounds)
+answer_of t (refused why) = Err why
 
 -- What the lent slices hold at exit, given what they held at entry: 'proved' fills both, 'impossible' the multipliers only, and a
 -- refusal neither.

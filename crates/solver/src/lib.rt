@@ -18,7 +18,7 @@ use crate::write::{write_multipliers, write_plan};
 use primal::terms::terms_of;
 use rounds::{Ended, Outcome, run_rounds};
 use tape::refusal::Refusal;
-use tape::{Answer, Tape, read};
+use tape::{Tape, read};
 
 // u(0), the first step's heater duties; those beyond m are 0.
 #[derive(Clone, Copy)]
@@ -34,11 +34,10 @@ pub struct Duties {
 pub enum Solved {
     Proved(usize, i64, Duties),
     Impossible(usize),
-    Refused(Refusal),
 }
 
 // Works out the plan of a tape, and hands over its first step with the gap.
-pub fn solve(tape: &[u8], plan: &mut [i32], multipliers: &mut [i32]) -> Solved
+pub fn solve(tape: &[u8], plan: &mut [i32], multipliers: &mut [i32]) -> Result<Solved, Refusal>
     ensures value { result ≡ answer_of (reading tape.now).tape (solving tape.now plan.old multipliers.old) }
     ensures plan_after { plan.new ≡ plan_left (solving tape.now plan.old multipliers.old) plan.old }
     ensures multipliers_after { multipliers.new ≡ multipliers_left (solving tape.now plan.old multipliers.old) multipliers.old }
@@ -46,57 +45,59 @@ pub fn solve(tape: &[u8], plan: &mut [i32], multipliers: &mut [i32]) -> Solved
     ensures judged_again { JudgedAgain result tape.now plan.new multipliers.new }
     ensures upheld { Upheld result (reading tape.now).tape plan.new multipliers.new }
 {
-    let result = read(tape);
-    let answer = result.answer;
-    match answer {
-        Answer::Accepted => solve_on(result.tape, plan, multipliers),
-        Answer::Refused(why) => Solved::Refused(why),
-    }
+    let t = read(tape)?;
+    solve_on(&t, plan, multipliers)
 }
 
-fn solve_on(t: Tape, plan: &mut [i32], multipliers: &mut [i32]) -> Solved
-    requires { Legal t }
-    ensures value { result ≡ answer_of t (solving_on t plan.old multipliers.old) }
-    ensures plan_after { plan.new ≡ plan_left (solving_on t plan.old multipliers.old) plan.old }
-    ensures multipliers_after { multipliers.new ≡ multipliers_left (solving_on t plan.old multipliers.old) multipliers.old }
+fn solve_on(t: &Tape, plan: &mut [i32], multipliers: &mut [i32]) -> Result<Solved, Refusal>
+    requires { Legal t.now }
+    ensures value { result ≡ answer_of t.now (solving_on t.now plan.old multipliers.old) }
+    ensures plan_after { plan.new ≡ plan_left (solving_on t.now plan.old multipliers.old) plan.old }
+    ensures multipliers_after { multipliers.new ≡ multipliers_left (solving_on t.now plan.old multipliers.old) multipliers.old }
 {
     let n = t.n;
     let m = t.m;
     let horizon = t.horizon;
     if plan.len() != horizon * (n + m) {
-        return Solved::Refused(Refusal::Length);
+        return Err(Refusal::Length);
     }
     if multipliers.len() != horizon * n {
-        return Solved::Refused(Refusal::Length);
+        return Err(Refusal::Length);
     }
-    let terms = terms_of(t);
-    let outcome = run_rounds(t, terms);
+    let terms = terms_of(*t);
+    let outcome = run_rounds(*t, terms);
     hand_over(t, outcome, plan, multipliers)
 }
 
 // The answer to the end of the rounds; the lent slices are written here and nowhere else.
-fn hand_over(t: Tape, outcome: Outcome, plan: &mut [i32], multipliers: &mut [i32]) -> Solved
-    requires legal { Legal t × (length plan.old ≡ t.horizon * (t.n + t.m)) × (length multipliers.old ≡ t.horizon * t.n) }
+// The outcome goes by value: as a reference it would stay whole on the stack, 1,560 bytes more.
+fn hand_over(
+    t: &Tape,
+    outcome: Outcome,
+    plan: &mut [i32],
+    multipliers: &mut [i32],
+) -> Result<Solved, Refusal>
+    requires legal { Legal t.now × (length plan.old ≡ t.now.horizon * (t.now.n + t.now.m)) × (length multipliers.old ≡ t.now.horizon * t.now.n) }
     requires bounded { Bounded most_number outcome.plan × Bounded most_multiplier outcome.multipliers }
-    ensures value { result ≡ answer_of t (ending_of t outcome.ended outcome.plan outcome.multipliers) }
-    ensures plan_after { plan.new ≡ plan_left (ending_of t outcome.ended outcome.plan outcome.multipliers) plan.old }
-    ensures multipliers_after { multipliers.new ≡ multipliers_left (ending_of t outcome.ended outcome.plan outcome.multipliers) multipliers.old }
+    ensures value { result ≡ answer_of t.now (ending_of t.now outcome.ended outcome.plan outcome.multipliers) }
+    ensures plan_after { plan.new ≡ plan_left (ending_of t.now outcome.ended outcome.plan outcome.multipliers) plan.old }
+    ensures multipliers_after { multipliers.new ≡ multipliers_left (ending_of t.now outcome.ended outcome.plan outcome.multipliers) multipliers.old }
 {
     let n = t.n;
     let m = t.m;
     let horizon = t.horizon;
-    let ended = outcome.ended;
-    match ended {
+    match outcome.ended {
         Ended::Proved(rounds, gap) => {
             write_plan(plan, &outcome.plan, n, m, horizon);
             write_multipliers(multipliers, &outcome.multipliers, n, horizon);
-            Solved::Proved(rounds, gap, first_duties(&outcome.plan, n, m, horizon))
+            let first = first_duties(&outcome.plan, n, m, horizon);
+            Ok(Solved::Proved(rounds, gap, first))
         }
         Ended::Impossible(rounds) => {
             write_multipliers(multipliers, &outcome.multipliers, n, horizon);
-            Solved::Impossible(rounds)
+            Ok(Solved::Impossible(rounds))
         }
-        Ended::Open => Solved::Refused(Refusal::Open(t.rounds)),
+        Ended::Open => Err(Refusal::Open(t.rounds)),
     }
 }
 

@@ -10,10 +10,8 @@ fn write_numbers(part: &mut [i32], from: &[i64], first: usize)
     requires { (first + length part.old ≤ length from.now) × Bounded most_multiplier from.now }
     ensures { part.new ≡ listed (length part.old) (λ j. at from.now (first + j)) }
 {
-    let mut j: usize = 0;
-    while j < part.len() {
+    for j in 0..part.len() {
         part[j] = from[first + j] as i32;
-        j += 1;
     }
 }
 
@@ -22,9 +20,9 @@ fn write_step(part: &mut [i32], v: &[i64; 120], n: usize, m: usize, k: usize)
     requires { (length part.old ≡ n + m) × (n ≤ 6) × (m ≤ 4) × (k < 12) × Bounded most_number v.now }
     ensures { part.new ≡ listed m ((padded_plan v.now).u k) ++ listed n ((padded_plan v.now).x k) }
 {
-    let end = m + n;
-    write_numbers(&mut part[0..m], v, 10 * k);
-    write_numbers(&mut part[m..end], v, 10 * k + 4);
+    let (inputs, states) = part.split_at_mut(m);
+    write_numbers(inputs, v, 10 * k);
+    write_numbers(states, v, 10 * k + 4);
 }
 
 // Writes each step into that step's own stretch of the plan.
@@ -33,13 +31,9 @@ pub fn write_plan(plan: &mut [i32], v: &[i64; 120], n: usize, m: usize, horizon:
     ensures { plan.new ≡ lent_plan n m horizon (padded_plan v.now) }
 {
     let width = n + m;
-    let mut first: usize = 0;
-    let mut k: usize = 0;
-    while k < horizon {
-        let end = first + width;
-        write_step(&mut plan[first..end], v, n, m, k);
-        first = end;
-        k += 1;
+    for k in 0..horizon {
+        let first = k * width;
+        write_step(&mut plan[first..first + width], v, n, m, k);
     }
 }
 
@@ -47,12 +41,8 @@ pub fn write_multipliers(multipliers: &mut [i32], y: &[i64; 72], n: usize, horiz
     requires { (length multipliers.old ≡ horizon * n) × (n ≤ 6) × (horizon ≤ 12) × Bounded most_multiplier y.now }
     ensures { multipliers.new ≡ lent_multipliers n horizon (padded y.now) }
 {
-    let mut first: usize = 0;
-    let mut k: usize = 0;
-    while k < horizon {
-        let end = first + n;
-        write_numbers(&mut multipliers[first..end], y, 6 * k);
-        first = end;
-        k += 1;
+    for k in 0..horizon {
+        let first = k * n;
+        write_numbers(&mut multipliers[first..first + n], y, 6 * k);
     }
 }

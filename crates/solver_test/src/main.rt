@@ -1,28 +1,12 @@
 // Solves the cases on standard input and writes the answers, and what the lent slices hold then.
 #![tactic(auto)]
 
-use cases::{Case, refused};
+use cases::{Case, each_case, refused};
 use solver::{Duties, Solved, solve};
 use std::io;
-use std::io::Read;
 
 fn main(rt: HostRuntime) -> io::Result<()> {
-    let mut text = Vec::new(rt.alloc());
-    rt.reader().read_to_end(&mut text)?;
-    run(&rt, &text)
-}
-
-fn run(rt: &impl Print, text: &[u8]) -> io::Result<()> {
-    let mut case = Case::new();
-    for c in text {
-        if *c == b'\n' {
-            lend(rt, case.closed())?;
-            case = Case::new();
-        } else {
-            case = case.next(*c);
-        }
-    }
-    Ok(())
+    each_case(&rt, |case| lend(&rt, case))
 }
 
 fn lend(rt: &impl Print, case: Case) -> io::Result<()> {
@@ -30,8 +14,8 @@ fn lend(rt: &impl Print, case: Case) -> io::Result<()> {
     let counts = case.counts;
     let mut plan = case.first;
     let mut multipliers = case.second;
-    if case.kind == b'v' {
-        lend_parts(
+    match case.word() {
+        b"solve" => lend_parts(
             rt,
             &tape,
             case.digits / 2,
@@ -39,9 +23,9 @@ fn lend(rt: &impl Print, case: Case) -> io::Result<()> {
             counts[0],
             &mut multipliers,
             counts[1],
-        )?;
+        ),
+        _ => Ok(()),
     }
-    Ok(())
 }
 
 // Lends the first bytes of the tape, the first p numbers of the plan and the first q multipliers.
@@ -72,14 +56,13 @@ fn show_solved(
     plan: &mut [i32],
     multipliers: &mut [i32],
 ) -> io::Result<()> {
-    let solved = solve(tape, plan, multipliers);
-    match solved {
-        Solved::Proved(rounds, gap, first) => show_proved(rt, rounds, gap, first)?,
-        Solved::Impossible(rounds) => {
+    match solve(tape, plan, multipliers) {
+        Ok(Solved::Proved(rounds, gap, first)) => show_proved(rt, rounds, gap, first)?,
+        Ok(Solved::Impossible(rounds)) => {
             print::word(rt, b"impossible")?;
             print::unsigned(rt, rounds as u64)?;
         }
-        Solved::Refused(why) => refused(rt, why)?,
+        Err(why) => refused(rt, why)?,
     }
     print::end(rt)?;
     numbers(rt, b"plan", plan)?;

@@ -1,5 +1,5 @@
 -- Document 01, "The rounds": the four steps of a round.
-use Rattle.std.specs.Prelude.{ℕ, zero, suc, Bool, false, cond, ◌||◌, ℤ, pos, ◌+ℤ◌, ◌-ℤ◌, ◌*ℤ◌, neg_ℤ}
+use Rattle.std.specs.Prelude.{ℕ, zero, suc, Bool, false, cond, ◌||◌, Option, Some, None, ℤ, pos, ◌+ℤ◌, ◌-ℤ◌, ◌*ℤ◌, neg_ℤ}
 use Rattle.std.specs.Int.Signed.{le_z}
 use Rattle.integer.specs.Limited.{limited}
 use Rattle.integer.specs.Quotient.{◌÷◌}
@@ -10,7 +10,7 @@ use Rattle.problem.specs.Model.{Term, Problem, Plan, problem_of, model_sum, roun
 use Rattle.problem.specs.Cost.{plan_cost}
 use Rattle.problem.specs.Dual.{input_slope, state_slope, weightless, unweighted, floor, shows}
 use Rattle.steps.specs.declared.verdict.Verdict.{Verdict}
-use Rattle.steps.specs.declared.verdict.Verdict.TheVariants.{Proved, Impossible, Neither}
+use Rattle.steps.specs.declared.verdict.Verdict.TheVariants.{Proved, Impossible}
 
 -- Limited to the multiplier range.
 abbrev pub multiplier : ℤ → ℤ
@@ -59,11 +59,11 @@ abbrev pub gap : Problem → Plan → (ℕ → ℕ → ℤ) → ℤ
 gap q v y = plan_cost q v -ℤ floor q y
 
 -- It follows the tape and its gap under y is at most T: 'proved'. Otherwise, if y shows impossibility: 'impossible'.
-unfoldable pub verdict : Tape → Plan → (ℕ → ℕ → ℤ) → Verdict
+unfoldable pub verdict : Tape → Plan → (ℕ → ℕ → ℤ) → Option Verdict
 verdict t v y =
     cond (cond (dropped (problem_of t) v) false (le_z (gap (problem_of t) v y) t.wanted))
-    (Proved (gap (problem_of t) v y))
-    (cond (shows (problem_of t) y) Impossible Neither)
+    (Some (Proved (gap (problem_of t) v y)))
+    (cond (shows (problem_of t) y) (Some Impossible) None)
 
 -- ---- 4. The next y, from y~ and its correction
 

@@ -18,10 +18,7 @@ pub fn multipliers_ahead<'a>(
     requires { (pos 0 ≼ k) × (k ≼ pos most_rounds) × (horizon ≤ 12) × Bounded most_multiplier y.now × Bounded most_multiplier previous.now × (length next.old ≡ 72) }
     ensures { Stretch 0 (6 * horizon) (λ p. ahead k (at y.now p) (at previous.now p)) next.old next.new }
 {
-    let count = 6 * horizon;
-    let mut p: usize = 0;
-    while p < count {
+    for p in 0..6 * horizon {
         next[p] = ahead_of(k, y[p], previous[p]);
-        p += 1;
     }
 }

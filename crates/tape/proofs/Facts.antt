@@ -29,8 +29,8 @@ use Rattle.commands.specs.Format.{wrong_size, beyond, wrong_column, wrong, place
 use Rattle.commands.specs.Marks.{state_place, input_place, drift_place, column_place, start_place, rounds_place, reference_place, place_count, marked}
 use Rattle.commands.specs.Required.{required}
 use Rattle.commands.proofs.Tests.{required-rounds}
-use Rattle.tape.specs.declared.Answer.TheVariants as answer
-use Rattle.tape.specs.declared.Reading.{Reading}
+use Rattle.tape.specs.Answer as answer
+use Rattle.tape.specs.Answer.{Reading}
 use Rattle.tape.specs.declared.Tape.{Tape}
 use Rattle.tape.specs.declared.refusal.Refusal.{Refusal}
 use Rattle.tape.specs.declared.refusal.Refusal.TheVariants.{Cut}

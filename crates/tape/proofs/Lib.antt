@@ -2,6 +2,7 @@
 pub mod Steps
 pub mod Missing
 pub mod Facts
+pub mod Told
 pub mod Enough
 pub mod Offsets
 pub mod Deciding

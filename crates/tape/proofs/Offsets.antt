@@ -17,9 +17,9 @@ use Rattle.commands.specs.Format.{size_bytes, bytes_of, wrong_size, beyond, plac
 use Rattle.commands.specs.Marks.{place_count, marked}
 use Rattle.commands.proofs.Tests.{inside}
 use Rattle.commands.proofs.Extent.{bytes_at, most_bytes, deciding_bytes, place_below, some_bytes, bytes_at_lem, deciding_bytes_lem}
-use Rattle.tape.specs.declared.Answer.{Answer}
-use Rattle.tape.specs.declared.Answer.TheVariants as answer
-use Rattle.tape.specs.declared.Reading.{Reading}
+use Rattle.tape.specs.Answer.{Answer}
+use Rattle.tape.specs.Answer as answer
+use Rattle.tape.specs.Answer.{Reading}
 use Rattle.tape.specs.Tape.{with}
 use Rattle.tape.specs.Reading.{Reader, Verdict, Going, Ended, Refused, sized, next, outcome, read_from, opened, reading}
 use Rattle.tape.proofs.Steps.{OfTape, same-sizes, SmallTape, small_opened, small_next, next-leads}

@@ -17,7 +17,7 @@ use Rattle.commands.specs.declared.Entry.TheVariants.{State, Input, Drift, Colum
 use Rattle.commands.specs.Format.{decoded, size_bytes, bytes_of, wrong_size, beyond, wrong, place_of}
 use Rattle.commands.specs.Marks.{marked}
 use Rattle.commands.specs.Room.{SmallSizes}
-use Rattle.tape.specs.declared.Reading.{Reading}
+use Rattle.tape.specs.Answer.{Reading}
 use Rattle.tape.specs.declared.Tape.{Tape}
 use Rattle.tape.specs.declared.refusal.Refusal.{Refusal}
 use Rattle.tape.specs.Refusals.{row, figure}

@@ -9,8 +9,8 @@ use Rattle.commands.specs.declared.Entry.{Entry}
 use Rattle.commands.specs.Format.{decoded, size_bytes, bytes_of, wrong_size, beyond, wrong, place_of}
 use Rattle.commands.specs.Marks.{place_count, marked}
 use Rattle.commands.specs.Required.{required}
-use Rattle.tape.specs.declared.Answer.TheVariants as answer
-use Rattle.tape.specs.declared.Reading.{Reading}
+use Rattle.tape.specs.Answer as answer
+use Rattle.tape.specs.Answer.{Reading}
 use Rattle.tape.specs.declared.Tape.{Tape}
 use Rattle.tape.specs.declared.refusal.Refusal.{Refusal}
 use Rattle.tape.specs.declared.refusal.Refusal.TheVariants.{Cut, Unknown, Misplaced, NoSuchPlace, OutOfRange, Twice, Absent, Overrun, Weightless}

@@ -43,6 +43,7 @@ pub enum Refusal {
     Weightless(usize),
 }
 
+// C has the numbers alone, and document 01's table gives them.
 pub fn number(refusal: Refusal) -> usize
     ensures { result ≡ (row refusal).number }
 {
@@ -84,25 +85,22 @@ pub fn carries(refusal: Refusal) -> Carried
     ensures { result ≡ (row refusal).carries }
 {
     match refusal {
-        Refusal::Cut(at) => Carried::Place(at),
-        Refusal::Unknown(at) => Carried::Place(at),
-        Refusal::Misplaced(at) => Carried::Place(at),
-        Refusal::NoSuchPlace(at) => Carried::Place(at),
-        Refusal::OutOfRange(at) => Carried::Place(at),
-        Refusal::Twice(at) => Carried::Place(at),
-        Refusal::Absent(at) => Carried::Place(at),
-        Refusal::Overrun(at) => Carried::Place(at),
-        Refusal::Length => Carried::Nothing,
-        Refusal::OffModel(fault) => Carried::Fault(fault),
-        Refusal::OverLimit(fault) => Carried::Fault(fault),
-        Refusal::Multiplier => Carried::Nothing,
+        Refusal::Cut(at)
+        | Refusal::Unknown(at)
+        | Refusal::Misplaced(at)
+        | Refusal::NoSuchPlace(at)
+        | Refusal::OutOfRange(at)
+        | Refusal::Twice(at)
+        | Refusal::Absent(at)
+        | Refusal::Overrun(at)
+        | Refusal::NotFinite(at)
+        | Refusal::TooLarge(at)
+        | Refusal::Weightless(at) => Carried::Place(at),
+        Refusal::OffModel(fault) | Refusal::OverLimit(fault) => Carried::Fault(fault),
         Refusal::Wide(span) => Carried::Span(span),
-        Refusal::NotShown => Carried::Nothing,
         Refusal::Open(rounds) => Carried::Rounds(rounds),
-        Refusal::ArgumentOutOfRange => Carried::Nothing,
-        Refusal::NotFinite(count) => Carried::Place(count),
-        Refusal::TooLarge(count) => Carried::Place(count),
-        Refusal::Weightless(at) => Carried::Place(at),
+        Refusal::Length | Refusal::Multiplier | Refusal::NotShown | Refusal::ArgumentOutOfRange =>
+            Carried::Nothing,
     }
 }
 
@@ -110,12 +108,8 @@ pub fn carries(refusal: Refusal) -> Carried
 pub fn figure(refusal: Refusal) -> usize
     ensures { result ≡ figure (row refusal).carries }
 {
-    let carried = carries(refusal);
-    match carried {
-        Carried::Place(at) => at,
-        Carried::Nothing => 0,
-        Carried::Fault(_) => 0,
-        Carried::Span(_) => 0,
-        Carried::Rounds(rounds) => rounds,
+    match carries(refusal) {
+        Carried::Place(number) | Carried::Rounds(number) => number,
+        Carried::Nothing | Carried::Fault(_) | Carried::Span(_) => 0,
     }
 }

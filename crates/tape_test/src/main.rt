@@ -1,80 +1,52 @@
 // Reads the tapes on standard input and writes what reading each of them gives.
 #![tactic(auto)]
 
-use cases::{Case, refused};
+use cases::{Case, each_case, refused};
 use std::io;
-use std::io::Read;
-use tape::{Answer, Tape, read};
+use tape::{Curves, Tape, read};
 
 fn main(rt: HostRuntime) -> io::Result<()> {
-    let mut text = Vec::new(rt.alloc());
-    rt.reader().read_to_end(&mut text)?;
-    run(&rt, &text)
-}
-
-fn run(rt: &impl Print, text: &[u8]) -> io::Result<()> {
-    let mut case = Case::new();
-    for c in text {
-        if *c == b'\n' {
-            show(rt, case)?;
-            case = Case::new();
-        } else {
-            case = case.next(*c);
-        }
-    }
-    Ok(())
+    each_case(&rt, |case| show(&rt, case))
 }
 
 fn show(rt: &impl Print, case: Case) -> io::Result<()> {
-    let kind = case.kind;
-    let tape = case.tape;
-    if kind == b'r' || kind == b'p' || kind == b'b' {
-        show_reading(rt, kind, &tape, case.digits / 2)?;
+    let word = case.word();
+    match word {
+        b"read" | b"steps" | b"banded" => show_reading(rt, word, &case.tape, case.digits / 2),
+        _ => Ok(()),
     }
-    Ok(())
 }
 
-fn show_reading(rt: &impl Print, kind: u8, tape: &[u8], bytes: usize) -> io::Result<()> {
+fn show_reading(rt: &impl Print, word: &[u8], tape: &[u8], bytes: usize) -> io::Result<()> {
     if tape.len() < bytes {
         return Ok(());
     }
-    let reading = read(&tape[..bytes]);
-    let answer = reading.answer;
-    match answer {
-        Answer::Accepted => show_numbers(rt, kind, reading.tape)?,
-        Answer::Refused(why) => refused(rt, why)?,
+    match read(&tape[..bytes]) {
+        Ok(t) => show_numbers(rt, word, &t)?,
+        Err(why) => refused(rt, why)?,
     }
     print::end(rt)
 }
 
-fn show_numbers(rt: &impl Print, kind: u8, t: Tape) -> io::Result<()> {
-    match kind {
-        b'p' => show_curves(rt, t),
-        b'b' => show_step(rt, t.banded),
+fn show_numbers(rt: &impl Print, word: &[u8], t: &Tape) -> io::Result<()> {
+    match word {
+        b"steps" => show_curves(rt, &t.curves),
+        b"banded" => show_step(rt, t.banded),
         _ => show_tape(rt, t),
     }
 }
 
-fn show_curves(rt: &impl Print, t: Tape) -> io::Result<()> {
-    let curves = t.curves;
+fn show_curves(rt: &impl Print, curves: &Curves) -> io::Result<()> {
     print::word(rt, b"steps")?;
     numbers(rt, &curves.reference)?;
-    marks(rt, &curves.given)
-}
-
-fn marks(rt: &impl Print, list: &[bool]) -> io::Result<()> {
-    for given in list {
-        mark(rt, *given)?;
+    for given in curves.given {
+        mark(rt, given)?;
     }
     Ok(())
 }
 
 fn mark(rt: &impl Print, given: bool) -> io::Result<()> {
-    if given {
-        print::unsigned(rt, 1)
-    } else {
-        print::unsigned(rt, 0)
-    }
+    print::unsigned(rt, given as u64)
 }
 
 fn show_step(rt: &impl Print, banded: bool) -> io::Result<()> {
@@ -82,7 +54,7 @@ fn show_step(rt: &impl Print, banded: bool) -> io::Result<()> {
     mark(rt, banded)
 }
 
-fn show_tape(rt: &impl Print, t: Tape) -> io::Result<()> {
+fn show_tape(rt: &impl Print, t: &Tape) -> io::Result<()> {
     print::word(rt, b"read")?;
     print::unsigned(rt, t.n as u64)?;
     print::unsigned(rt, t.m as u64)?;

@@ -11,8 +11,7 @@ use lib.Dec.{eqb, ltb, lit<}
 use lib.Bits.{bit_and, bit_or, and_shr, or_shr, and_mod, or_mod}
 use lib.Count.{ones, ones_in, ones_cat}
 use lib.Arith.{lt-one}
-use lib.ListN.{length, length-set, get_or, set, replicate, get_or-replicate}
-use lib.Seq.{get_or-set_same, get_or-set_other}
+use lib.ListN.{get_or, replicate, get_or-replicate}
 use lib.Pow.{pow_pos, pow_mono, pow-lt, pow-add, shl-shr, ones_lt, shl_exact, split, le_ones, ones_sub-lt, ones_split, high, field, mod-mod-pow, shr_lt}
 use borrow.Author.Tests.{lt-ltb, le-ltb, eq-eqb, ne_eqb}
 use Rattle.integer.specs.Tests.{count}
@@ -182,29 +181,13 @@ pub bit-none : (k i : ℕ) → i < 64 * k → bit_of (replicate k 0) i ≡ false
 unfolding bit_of
 bit-none k i h = ap (λ (y : ℕ). bit y (i % 64)) (get_or-replicate k (i / 64) 0 0 (omega arith)) ∙ bit_zero (i % 64)
 
--- ---- Words that are filled one after the other
-
--- the words before w hold f
-abbrev pub Filled : (ℕ → Bool) → List ℕ → ℕ → Type 0
-Filled f words w = (w ≤ word_count) × (length words ≡ word_count) × ((i : ℕ) → i < 64 * w → bit_of words i ≡ f i)
-
-pub filled_none : (f : ℕ → Bool) (words : List ℕ) → length words ≡ word_count → Filled f words 0
-filled_none f words e = (omega arith, e, λ i h. let z : ⊥ = omega arith in absurd z)
-
-pub filled_next : (f : ℕ → Bool) (words : List ℕ) (w x : ℕ) → w < word_count → Filled f words w → Holds x (λ b. f (64 * w + b)) → Filled f (set words w x) (w + 1)
-unfolding bit_of
-filled_next f words w x h filled here =
-    (omega arith, length-set words w x ∙ filled.1, λ i l. ⊎_elim (kept i) (new i l) (lt_or_le i (64 * w)))
+-- words that hold f one by one
+pub by_words : (f : ℕ → Bool) (words : List ℕ) → ((w : ℕ) → w < word_count → Holds (get_or words w 0) (λ b. f (64 * w + b))) → HoldAll words f
+by_words f words h = record { each = λ i l. each i l }
   where
-    kept : (i : ℕ) → i < 64 * w → bit_of (set words w x) i ≡ f i
-    kept i k = ap (λ (y : ℕ). bit y (i % 64)) (get_or-set_other words w (i / 64) x 0 (λ e. omega arith)) ∙ filled.2 i k
-
-    new : (i : ℕ) → i < 64 * (w + 1) → 64 * w ≤ i → bit_of (set words w x) i ≡ f i
-    new i l k =
-        let b = i - 64 * w in
+    each : (i : ℕ) → i < 64 * word_count → bit_of words i ≡ f i
+    each i l =
+        let w = i / 64 in
+        let b = i % 64 in
         let e : i ≡ 64 * w + b = omega arith in
-        ap (bit_of (set words w x)) e ∙ bit_of_lem (set words w x) w b (omega arith)
-        ∙ ap (λ (y : ℕ). bit y b) (get_or-set_same words w x 0 (omega (arith, filled.1))) ∙ here.each b (omega arith) ∙ ap f (sym e)
-
-pub filled_all : (f : ℕ → Bool) (words : List ℕ) (w : ℕ) → word_count ≤ w → Filled f words w → HoldAll words f
-filled_all f words w h filled = record { each = λ i l. filled.2 i (omega arith) }
+        ap (bit_of words) e ∙ bit_of_lem words w b (omega arith) ∙ (h w (omega arith)).each b (omega arith) ∙ ap f (sym e)

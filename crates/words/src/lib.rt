@@ -22,12 +22,10 @@ pub fn pack(marks: &[bool], first: usize, count: usize) -> u64
     ensures { Holds result (λ b. ltb b count && get_or marks.now (first + b) false) }
 {
     let mut word = 0u64;
-    let mut b = 0;
-    while b < count {
+    for b in 0..count {
         if is_marked(marks, first + b) {
-            word = word | 1u64 << b;
+            word |= 1 << b;
         }
-        b += 1;
     }
     word
 }
@@ -50,7 +48,7 @@ pub fn below(first: usize, end: usize) -> u64
 pub fn ones(word: u64) -> usize
     ensures { result ≡ count 64 (bit word) }
 {
-    u64::count_ones(word) as usize
+    word.count_ones() as usize
 }
 
 // How many places of a word are required and not given.
@@ -65,10 +63,8 @@ pub fn missing_ones(required: &[u64; WORD_COUNT], given: &[u64; WORD_COUNT]) -> 
     ensures { result ≡ count (64 * word_count) (λ i. bit_of required.now i && not (bit_of given.now i)) }
 {
     let mut sum = 0;
-    let mut word = 0;
-    while word < WORD_COUNT {
+    for word in 0..WORD_COUNT {
         sum += missing_in(required[word], given[word]);
-        word += 1;
     }
     sum
 }

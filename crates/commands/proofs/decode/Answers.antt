@@ -1,42 +1,44 @@
 use borrow.Author.Tests.{ne_eqb}
+use Rattle.commands.specs.declared.Entry.TheVariants.{State, Input, Reference}
 use Rattle.commands.specs.Format.{decoded}
+use Rattle.commands.proofs.Tests.{with_room}
 use Rattle.commands.proofs.decode.Goals as goal
 
 pub returns-in-16 : goal.returns-in-16
 unfolding decoded
-returns-in-16 c = (rw c.in-16.is c.size.ensures.0, c.size.ensures.1)
+returns-in-16 c = with_room _ _ c.requires (rw c.in-16.is c.size.ensures)
 
 pub returns-in-32 : goal.returns-in-32
 unfolding decoded
-returns-in-32 c = (rw c.in-32.is c.state_entry.ensures.0, c.state_entry.ensures.1)
+returns-in-32 c = with_room _ _ c.requires (rw c.in-32.is (c.pair.ensures State (λ x made. made)))
 
 pub returns-in-33 : goal.returns-in-33
 unfolding decoded
-returns-in-33 c = (rw c.in-33.is c.input_entry.ensures.0, c.input_entry.ensures.1)
+returns-in-33 c = with_room _ _ c.requires (rw c.in-33.is (c.pair-in-33.ensures Input (λ x made. made)))
 
 pub returns-in-34 : goal.returns-in-34
 unfolding decoded
-returns-in-34 c = (rw c.in-34.is c.drift.ensures.0, c.drift.ensures.1)
+returns-in-34 c = with_room _ _ c.requires (rw c.in-34.is c.drift.ensures)
 
 pub returns-in-48 : goal.returns-in-48
 unfolding decoded
-returns-in-48 c = (rw c.in-48.is c.column.ensures.0, c.column.ensures.1)
+returns-in-48 c = with_room _ _ c.requires (rw c.in-48.is c.column.ensures)
 
 pub returns-in-49 : goal.returns-in-49
 unfolding decoded
-returns-in-49 c = (rw c.in-49.is c.reference.ensures.0, c.reference.ensures.1)
+returns-in-49 c = with_room _ _ c.requires (rw c.in-49.is (c.pair-in-49.ensures Reference (λ x made. made)))
 
 pub returns-in-64 : goal.returns-in-64
 unfolding decoded
-returns-in-64 c = (rw c.in-64.is c.start.ensures.0, c.start.ensures.1)
+returns-in-64 c = with_room _ _ c.requires (rw c.in-64.is c.start.ensures)
 
 pub returns-in-80 : goal.returns-in-80
 unfolding decoded
-returns-in-80 c = (rw c.in-80.is c.rounds.ensures.0, c.rounds.ensures.1)
+returns-in-80 c = with_room _ _ c.requires (rw c.in-80.is c.rounds.ensures)
 
 pub returns-in-81 : goal.returns-in-81
 unfolding decoded
-returns-in-81 c = (rw c.in-81.is c.rounds-in-81.ensures.0, c.rounds-in-81.ensures.1)
+returns-in-81 c = with_room _ _ c.requires (rw c.in-81.is c.rounds-in-81.ensures)
 
 pub returns-in-255 : goal.returns-in-255
 unfolding decoded

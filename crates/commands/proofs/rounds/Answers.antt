@@ -8,13 +8,13 @@ use Rattle.commands.proofs.rounds.Goals as goal
 
 pub returns-then-s-at-le8 : goal.returns-then-s-at-le8
 unfolding rounds_command
-returns-then-s-at-le8 c = let s = c.before.before in cut 8 s.args.s.now s.args.at _ s.requires (omega arith)
+returns-then-s-at-le8 c = cut 8 c.args.s.now c.args.at _ (omega arith)
 
 pub returns : goal.returns
 unfolding rounds_command
 returns c =
     let a = c.args in
-    let gain = to_z_pos w64 {n = c.u16_at-gain.result} (omega arith) in
-    let wanted = to_z_pos w64 {n = c.u32_at-wanted.result} (omega arith) in
+    let gain = to_z_pos w64 {n = c.unsigned_at.result} (omega arith) in
+    let wanted = to_z_pos w64 {n = c.unsigned_at-3.result} (omega arith) in
     uncut 8 a.s.now a.at (omega arith)
-    (rw (gain, wanted, c.u16_at-gain.ensures.0, c.u32_at-wanted.ensures.0, c.u16_at.ensures.0) refl)
+    (rw (gain, wanted, c.unsigned_at.ensures.0, c.unsigned_at-3.ensures.0, c.unsigned_at-2.ensures.0) refl)

@@ -6,11 +6,11 @@ use Rattle.commands.proofs.size.Goals as goal
 
 pub returns-then-s-at-le3 : goal.returns-then-s-at-le3
 unfolding size_command
-returns-then-s-at-le3 c = let s = c.before.before in cut 3 s.args.s.now s.args.at _ s.requires (omega arith)
+returns-then-s-at-le3 c = cut 3 c.args.s.now c.args.at _ (omega arith)
 
 pub returns : goal.returns
 unfolding size_command
 returns c =
     let a = c.args in
     uncut 3 a.s.now a.at (omega arith)
-    (rw (c.u8_at.ensures.0, c.u8_at-2.ensures.0, c.u8_at-3.ensures.0) refl)
+    (rw (c.unsigned_at.ensures.0, c.unsigned_at-2.ensures.0, c.unsigned_at-3.ensures.0) refl)

@@ -7,11 +7,11 @@ use Rattle.commands.proofs.start.Goals as goal
 
 pub returns-then-s-at-le3 : goal.returns-then-s-at-le3
 unfolding start_command
-returns-then-s-at-le3 c = let s = c.before.before in cut 3 s.args.s.now s.args.at _ s.requires (omega arith)
+returns-then-s-at-le3 c = cut 3 c.args.s.now c.args.at _ (omega arith)
 
 pub returns : goal.returns
 unfolding start_command
 returns c =
     let a = c.args in
-    let v = c.i16_at in
-    uncut 3 a.s.now a.at (omega arith) (rw (called v.result v.type_inv, v.ensures.0, c.u8_at.ensures.0) refl)
+    let v = c.signed_at in
+    uncut 3 a.s.now a.at (omega arith) (rw (called v.result v.type_inv, v.ensures.value, c.unsigned_at.ensures.0) refl)

@@ -1,37 +1,36 @@
-use mathlib.Core.Path.{refl}
-use Rattle.integer.proofs.Operand.{Bytes, bytes_of}
+use mathlib.Core.Path.{◌≡◌, refl, sym, ◌∙◌}
+use borrow.Author.Rules.{rules}
+use Rattle.std.specs.Prelude.{Err}
+use Rattle.integer.proofs.Operand.{bytes_of}
+use Rattle.tape.specs.Reading.{reading}
 use Rattle.tape.proofs.Facts.{legal}
+use Rattle.tape.proofs.Told.{told_ok, told_err}
 use Rattle.corrections.specs.Corrections.{corrected}
 use Rattle.corrections.proofs.banded_correction.Goals as goal
-use Rattle.corrections.proofs.banded_correction.Tie as tie
-use Rattle.corrections.proofs.banded_correction.Reads as reads
-use Rattle.corrections.proofs.banded_correction.Lts as lts
-
-abbrev start : lts.After-read tie.the-claims reads.Pre reads.Post tie.handed_clauses → lts.Start tie.the-claims reads.Pre reads.Post tie.handed_clauses
-start c = c.before.before.before.before
-
-bytes : (c : lts.After-read tie.the-claims reads.Pre reads.Post tie.handed_clauses) → Bytes (start c).args.tape.now
-bytes c = bytes_of c.shared_slice_known-1.given
 
 pub correct-requires : goal.correct-requires
 correct-requires c =
-    let r = c.before.before.before.before.before in
-    rw r.read-result.ensures (legal (start r).args.tape.now (bytes r) (rw r.read-result.ensures at c.in-Accepted.is))
+    let s = c.args.tape.now in
+    let r = told_ok (reading s) (sym c.read.ensures ∙ c.in_ok-read.was) in
+    rw r.1 at (legal s (bytes_of c.type_inv.tape) r.0)
 
-pub returns-in-Accepted : goal.returns-in-Accepted
+pub returns-in_err-read : goal.returns-in_err-read
 unfolding corrected
-returns-in-Accepted c =
-    let read = c.read-result.ensures in
-    let e = rw read at c.in-Accepted.is in
-    let o = rw read at c.correct.ensures in
+returns-in_err-read c =
+    let e : c.from_residual.result ≡ Err c.in_err-read.field-0.0 = search rules in
     record {
-      value = rw e o.value;
-      pivots_after = o.pivots_after;
-      correction_after = o.correction_after;
+      value = rw (told_err (reading c.args.tape.now) (sym c.read.ensures ∙ c.in_err-read.was)) e;
+      pivots_after = rw e refl;
+      correction_after = rw e refl;
     }
 
-pub returns-in-Refused : goal.returns-in-Refused
+pub returns : goal.returns
 unfolding corrected
-returns-in-Refused c =
-    let e = rw c.read-result.ensures at c.in-Refused.is in
-    record { value = rw e; pivots_after = refl; correction_after = refl }
+returns c =
+    let r = told_ok (reading c.args.tape.now) (sym c.read.ensures ∙ c.in_ok-read.was) in
+    let o = c.correct.ensures in
+    record {
+      value = rw (r.0, r.1) o.value;
+      pivots_after = rw r.1 o.pivots_after;
+      correction_after = rw r.1 o.correction_after;
+    }

@@ -1,4 +1,3 @@
-use Prim.Native.Nat.{◌≤◌, ◌-◌}
 use mathlib.Core.Path.{◌≡◌, ap}
 use native.Mathlib.Omega.{arith}
 use lib.ListN.{length, length-set}
@@ -7,12 +6,11 @@ use Rattle.integer.specs.Places.{at}
 use Rattle.integer.proofs.Sizes.{element_is}
 use Rattle.float.proofs.Whole.{whole_fits}
 use Rattle.banded.specs.Floats.{float}
-use Rattle.banded.specs.Rows.{Holds}
 use Rattle.banded.proofs.Stores.{holds-none, holds_store}
 use Rattle.corrections.proofs.right_sides.Goals as goal
 
 pub loop-p-init : goal.loop-p-init
-loop-p-init c = (omega arith, search rules, holds-none _ _)
+loop-p-init c = (search rules, holds-none _ _)
 
 pub int_to_float-sides : goal.int_to_float-sides
 int_to_float-sides c =
@@ -24,9 +22,9 @@ pub loop-p-preserved : goal.loop-p-preserved
 loop-p-preserved c =
     let l = c.loop-p in
     let s = c.before.before.before.before in
-    (omega arith, simp length-set l.invariant.1, holds_store _ l.p l.sides _ (omega arith) (ap float (element_is s.requires.1 (omega arith) l.p)) l.invariant.2)
+    (simp length-set l.invariant.0, holds_store _ l.p l.sides _ (omega arith) (ap float (element_is s.requires.1 (omega arith) l.p)) l.invariant.1)
 
 pub returns : goal.returns
 returns c =
     let e : c.loop-p.p ≡ length c.args.residuals.now = omega arith in
-    rw e at c.loop-p.invariant.2
+    rw e at c.loop-p.invariant.1

@@ -1,11 +1,12 @@
 use mathlib.Core.Path.{◌∙◌}
-use Rattle.primal.proofs.Lent.{listed_cong}
+use lib.Ieee.{nan}
+use Rattle.std.proofs.lemmas.List.{get_or-take}
+use Rattle.primal.proofs.Lent.{listed-whole}
 use Rattle.corrections.proofs.write_correction.Goals as goal
 
 pub returns : goal.returns
 returns c = λ w k.
-    let f = c.before.before in
-    let d = f.before.before.before in
-    let r = d.before.before in
-    let h = d.correction_of-d.ensures w _ k r.right_sides-sides.ensures in
-    f.write_floats.ensures ∙ rw r.requires.1 (listed_cong _ _ _ (λ j l. h.each j l))
+    let d = c.correction_of-d in
+    let h = d.ensures w _ k c.right_sides-sides.ensures in
+    let copied = c.copy_from_slice.ensures in
+    listed-whole nan _ _ _ (copied.len ∙ c.requires.1) (λ j l. rw copied.after (get_or-take _ _ j nan l) ∙ h.each j l)

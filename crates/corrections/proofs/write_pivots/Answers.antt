@@ -1,13 +1,12 @@
-use Prim.Native.Nat.{ℕ, ◌≤◌, ◌<◌, ◌+◌, ◌-◌}
-use mathlib.Core.Path.{◌≡◌, refl}
+use Prim.Native.Nat.{ℕ, ◌<◌, ◌+◌}
+use mathlib.Core.Path.{refl}
 use mathlib.Core.List.{List}
 use native.Mathlib.Omega.{arith}
 use lib.ListN.{length, length-set, set, get_or}
 use lib.Ieee.{Float, nan}
 use Rattle.primal.proofs.Lent.{listed-whole}
 use Rattle.banded.specs.declared.rows.Row.{Row}
-use Rattle.banded.specs.Elimination.{Matrix, pivot}
-use Rattle.banded.specs.Rows.{Holds, KeptRows}
+use Rattle.banded.specs.Elimination.{pivot}
 use Rattle.banded.proofs.Stores.{holds-none, holds_store}
 use Rattle.corrections.proofs.write_pivots.Invariants.{Pivots}
 use Rattle.corrections.proofs.write_pivots.Goals as goal
@@ -19,14 +18,14 @@ pivots_store rows end count p l h room o = record {
 }
 
 pub loop-p-init : goal.loop-p-init
-loop-p-init c = (omega arith, refl, record { each = λ band w k. holds-none _ _ })
+loop-p-init c = (refl, record { each = λ band w k. holds-none _ _ })
 
 pub loop-p-preserved : goal.loop-p-preserved
 loop-p-preserved c =
     let l = c.loop-p in
-    (omega arith, simp length-set l.invariant.1, pivots_store _ _ _ l.p l.pivots (omega arith) (omega arith) l.invariant.2)
+    (simp length-set l.invariant.0, pivots_store _ _ _ l.p l.pivots (omega arith) (omega arith) l.invariant.1)
 
 pub returns : goal.returns
 returns c = λ band w k.
     let l = c.loop-p in
-    listed-whole nan _ _ _ l.invariant.1 (λ j h. (l.invariant.2.each band w k).each j (omega arith))
+    listed-whole nan _ _ _ l.invariant.0 (λ j h. (l.invariant.1.each band w k).each j (omega arith))

@@ -1,14 +1,11 @@
-use Prim.Native.Nat.{ℕ, ◌≤◌, ◌<◌, ◌+◌, ◌-◌}
-use mathlib.Core.Path.{◌≡◌, refl}
+use Prim.Native.Nat.{ℕ}
+use mathlib.Core.Path.{◌≡◌}
 use mathlib.Core.List.{List}
-use native.Mathlib.Omega.{arith}
-use lib.ListN.{length, length-set, set, get_or}
-use lib.Ieee.{Float, nan}
-use Rattle.primal.proofs.Lent.{listed-whole}
+use lib.ListN.{length}
+use lib.Ieee.{Float}
 use Rattle.banded.specs.declared.rows.Row.{Row}
 use Rattle.banded.specs.Elimination.{Matrix, pivot}
 use Rattle.banded.specs.Rows.{Holds, KeptRows}
-use Rattle.banded.proofs.Stores.{holds-none, holds_store}
 use Rattle.corrections.proofs.write_pivots.Given as goal
 
 -- the first p pivots are written
@@ -17,7 +14,4 @@ pub record Pivots (rows : List Row) (count p : ℕ) (l : List Float) : Type 0 wh
 
 abbrev pub invariant-loop-p : goal.invariant-loop-p
 invariant-loop-p l =
-    (l.p ≤ length l.initial.pivots) × (length l.pivots ≡ length l.initial.pivots) × Pivots l.rows (length l.initial.pivots) l.p l.pivots
-
-abbrev pub decreases-loop-p : goal.decreases-loop-p
-decreases-loop-p l = length l.initial.pivots - l.p
+    (length l.pivots ≡ length l.initial.pivots) × Pivots l.rows (length l.initial.pivots) l.p l.pivots

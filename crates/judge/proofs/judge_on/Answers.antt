@@ -1,39 +1,19 @@
+use Prim.Native.Nat.{◌+◌}
 use mathlib.Core.Path.{◌≡◌, sym, ◌∙◌}
 use mathlib.Core.Bool.{false}
 use native.Mathlib.Omega.{arith}
+use borrow.Author.Rules.{rules}
 use borrow.Author.Tests.{eq-eqb, ne_eqb}
-use Prim.Native.Nat.{◌+◌}
-use Rattle.problem.specs.Model.{problem_of, plan_of}
-use Rattle.primal.specs.Held.{HeldPlan}
+use Rattle.std.specs.Prelude.{Err}
 use Rattle.primal.proofs.Lengths.{count_fits}
 use Rattle.primal.proofs.Held.{floor-held, cost-held}
-use Rattle.lent.specs.Checks.{wrong_multipliers, plan_check}
+use Rattle.lent.specs.Checks.{wrong_multipliers}
 use Rattle.judge.specs.Judging.{judged_on}
 use Rattle.judge.proofs.judge_on.Goals as goal
-use Rattle.judge.proofs.judge_on.Tie as tie
-use Rattle.judge.proofs.judge_on.Reads as reads
-use Rattle.judge.proofs.judge_on.Lts as lts
+use Rattle.judge.proofs.judge_on.Goals.{Else-is_any_outside}
 
--- the place behind the tests of the lent slices, and where the function starts
-abbrev tested : lts.After-v tie.the-claims reads.Pre reads.Post tie.handed_clauses → goal.Else-is_any_outside
-tested c = c.before.before.before.before
-
-abbrev start : goal.Else-is_any_outside → goal.Start
-start c = c.before.before.before.before
-
-in_range : (c : goal.Else-is_any_outside) → wrong_multipliers (start c).args.multipliers.now ≡ false
+in_range : (c : Else-is_any_outside) → wrong_multipliers c.args.multipliers.now ≡ false
 in_range c = sym c.is_any_outside.ensures ∙ c.if-is_any_outside.false
-
--- what the tests of the plan answered
-check_is : (c : lts.After-checked_plan tie.the-claims reads.Pre reads.Post tie.handed_clauses) →
-    let a = (start c.before.before.before).args in
-    plan_check (problem_of a.t) (plan_of a.t.n a.t.m a.plan.now) ≡ c.checked_plan-walk.result.check
-check_is c = sym c.checked_plan-walk.ensures.check_value
-
-held : (c : goal.In-Passed) →
-    let a = (start (tested c.before)).args in
-    HeldPlan a.t.n a.t.m a.t.horizon (plan_of a.t.n a.t.m a.plan.now) c.checked_plan-walk.result.plan
-held c = rw c.in-Passed.is at c.checked_plan-walk.ensures.held_when_passed
 
 pub overflow_mul-horizon : goal.overflow_mul-horizon
 overflow_mul-horizon c =
@@ -55,43 +35,39 @@ returns-then-is_any_outside c =
     rw (eq-eqb _ _ c.if-plan-horizon.false, eq-eqb _ _ c.if-multipliers-horizon.false, ← c.is_any_outside.ensures, c.if-is_any_outside.true)
 
 pub padded_multipliers-y-requires : goal.padded_multipliers-y-requires
-padded_multipliers-y-requires c = let l = (start c).requires in (l.states.1, l.steps.1, c.if-multipliers-horizon.false, in_range c)
+padded_multipliers-y-requires c =
+    let l = c.requires in
+    (l.states.1, l.steps.1, c.if-multipliers-horizon.false, in_range (goal.at.padded_multipliers-y-requires c).Else-is_any_outside)
+
+pub returns-in_err-v : goal.returns-in_err-v
+unfolding judged_on
+returns-in_err-v c =
+    let e : c.from_residual.result ≡ Err c.in_err-v.field-0.0 = search rules in
+    rw (
+      eq-eqb _ _ c.if-plan-horizon.false,
+      eq-eqb _ _ c.if-multipliers-horizon.false,
+      in_range (goal.at.returns-in_err-v c).Else-is_any_outside,
+      c.in_err-v.ensures,
+    ) e
 
 pub judge_gap-requires : goal.judge_gap-requires
 judge_gap-requires c =
-    let p = c.before in
-    let y = p.padded_multipliers-y.ensures in
-    let v = held c in
+    let y = c.padded_multipliers-y.ensures in
+    let v = c.in_ok-v.ensures.1 in
     record {
-      legal = ((start (tested p)).requires, p.terms_of-terms.ensures);
+      legal = (c.requires, c.terms_of-terms.ensures);
       bounded = (v.bounded, v.blank, y.bounded, y.blank);
     }
 
-pub returns-in-Passed : goal.returns-in-Passed
+pub returns : goal.returns
 unfolding judged_on
-returns-in-Passed c =
-    let e = c.before in
-    let p = e.before in
-    let q = tested p in
-    let s = start q in
-    let t = s.args.t in
+returns c =
+    let t = c.args.t in
     rw (
-      eq-eqb _ _ q.if-plan-horizon.false,
-      eq-eqb _ _ q.if-multipliers-horizon.false,
-      in_range q,
-      check_is p.before ∙ e.in-Passed.is,
-      ← cost-held t s.requires (held e),
-      ← floor-held t s.requires p.padded_multipliers-y.ensures,
+      eq-eqb _ _ c.if-plan-horizon.false,
+      eq-eqb _ _ c.if-multipliers-horizon.false,
+      in_range (goal.at.returns c).Else-is_any_outside,
+      c.in_ok-v.ensures.0,
+      ← cost-held t c.requires c.in_ok-v.ensures.1,
+      ← floor-held t c.requires c.padded_multipliers-y.ensures,
     ) c.judge_gap.ensures
-
-pub returns-in-Failed : goal.returns-in-Failed
-unfolding judged_on
-returns-in-Failed c =
-    let p = c.before in
-    let q = tested p in
-    rw (
-      eq-eqb _ _ q.if-plan-horizon.false,
-      eq-eqb _ _ q.if-multipliers-horizon.false,
-      in_range q,
-      check_is p.before ∙ c.in-Failed.is,
-    )

@@ -1,34 +1,34 @@
-use Rattle.integer.proofs.Operand.{Bytes, bytes_of}
+use mathlib.Core.Path.{◌≡◌, sym, ◌∙◌}
+use borrow.Author.Rules.{rules}
+use Rattle.std.specs.Prelude.{Err}
+use Rattle.integer.proofs.Operand.{bytes_of}
+use Rattle.tape.specs.Reading.{reading}
 use Rattle.tape.proofs.Facts.{legal}
-use Rattle.judge.specs.declared.Judged.TheVariants.{Refused}
+use Rattle.tape.proofs.Told.{told_ok, told_err}
 use Rattle.judge.specs.Judging.{judged}
 use Rattle.judge.proofs.Reasons.{plan_promise}
 use Rattle.judge.proofs.judge_plan.Goals as goal
-use Rattle.judge.proofs.judge_plan.Tie as tie
-use Rattle.judge.proofs.judge_plan.Reads as reads
-use Rattle.judge.proofs.judge_plan.Lts as lts
-
-bytes : (c : lts.After-read tie.the-claims reads.Pre reads.Post tie.handed_clauses) → Bytes c.args.tape.now
-bytes c = bytes_of c.shared_slice_known-1.given
 
 pub judge_on-requires : goal.judge_on-requires
 judge_on-requires c =
-    let r = c.before.before.before in
-    rw r.read-result.ensures (legal r.args.tape.now (bytes r) (rw r.read-result.ensures at c.in-Accepted.is))
+    let s = c.args.tape.now in
+    let r = told_ok (reading s) (sym c.read.ensures ∙ c.in_ok-read.was) in
+    rw r.1 at (legal s (bytes_of c.type_inv.tape) r.0)
 
-pub returns-in-Accepted : goal.returns-in-Accepted
+pub returns-in_err-read : goal.returns-in_err-read
 unfolding judged
-returns-in-Accepted c =
-    let r = c.before.before.before.before in
-    let a = r.args in
-    let p = plan_promise a.tape.now a.plan.now a.multipliers.now {r = c.judge_on.result} (bytes r)
-    (rw (rw r.read-result.ensures at c.in-Accepted.is) (rw r.read-result.ensures at c.judge_on.ensures)) in
+returns-in_err-read c =
+    let a = c.args in
+    let e : c.from_residual.result ≡ Err c.in_err-read.field-0.0 = search rules in
+    let p = plan_promise a.tape.now a.plan.now a.multipliers.now {r = c.from_residual.result} (bytes_of c.type_inv.tape)
+    (rw (told_err (reading a.tape.now) (sym c.read.ensures ∙ c.in_err-read.was)) e) in
     record { value = p.0; backed = p.1.0; reasoned = p.1.1 }
 
-pub returns-in-Refused : goal.returns-in-Refused
+pub returns : goal.returns
 unfolding judged
-returns-in-Refused c =
-    let r = c.before.before in
-    let a = r.args in
-    let p = plan_promise a.tape.now a.plan.now a.multipliers.now {r = Refused c.in-Refused.why} (bytes r) (rw (rw r.read-result.ensures at c.in-Refused.is)) in
+returns c =
+    let a = c.args in
+    let r = told_ok (reading a.tape.now) (sym c.read.ensures ∙ c.in_ok-read.was) in
+    let p = plan_promise a.tape.now a.plan.now a.multipliers.now {r = c.judge_on.result} (bytes_of c.type_inv.tape)
+    (rw (r.0, r.1) c.judge_on.ensures) in
     record { value = p.0; backed = p.1.0; reasoned = p.1.1 }

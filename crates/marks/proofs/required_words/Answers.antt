@@ -1,15 +1,12 @@
-use Prim.Native.Nat.{ℕ, ◌+◌, ◌-◌, ◌*◌, ◌≤◌}
+use Prim.Native.Nat.{ℕ, ◌+◌, ◌*◌}
 use mathlib.Core.Path.{◌≡◌, sym, ap, ◌∙◌}
 use mathlib.Core.Bool.{Bool, ◌&&◌, ◌||◌, and-true, and-false, or_assoc, or-false}
-use mathlib.Core.List.{List}
-use mathlib.Core.Logic.{⊎_elim}
 use native.Mathlib.Numerals.{add-one}
 use native.Mathlib.Omega.{arith}
 use Rattle.integer.specs.Tests.{any}
-use Rattle.words.specs.Words.{HoldAll}
 use Rattle.words.proofs.Bits.{bit-none}
 use Rattle.commands.specs.Marks.{column_place, start_place, rounds_place, reference_place}
-use Rattle.commands.specs.Required.{among, curved, on_curve, required}
+use Rattle.commands.specs.Required.{among, on_curve, required}
 use Rattle.marks.proofs.required_words.Invariants.{asked, on}
 use Rattle.marks.proofs.required_words.Goals as goal
 use Rattle.marks.proofs.required_words.Goals.{then-is_curved, else-is_curved}
@@ -25,21 +22,16 @@ loop-column-init c =
     let one = c.with_span-columns in
     let two = c.with_span-starts in
     let three = c.with_span-words in
-    let a = c.args in (
-      omega arith,
-      record {
-        each = λ i h.
-            three.ensures.each i h
-            ∙ ap (λ (t : Bool). t || among rounds_place 1 (column_place + i))
-            (two.ensures.each i h
-            ∙ ap (λ (t : Bool). t || among start_place a.n (column_place + i))
-            (one.ensures.each i h ∙ ap (λ (t : Bool). t || among column_place (a.n + a.m) (column_place + i)) (bit-none 3 i h)))
-            ∙ sym (or-false (asked a.n a.m (column_place + i)));
-      },
-    )
-
-pub loop-column-smaller : goal.loop-column-smaller
-loop-column-smaller c = omega arith
+    let a = c.args in
+    record {
+      each = λ i h.
+          three.ensures.each i h
+          ∙ ap (λ (t : Bool). t || among rounds_place 1 (column_place + i))
+          (two.ensures.each i h
+          ∙ ap (λ (t : Bool). t || among start_place a.n (column_place + i))
+          (one.ensures.each i h ∙ ap (λ (t : Bool). t || among column_place (a.n + a.m) (column_place + i)) (bit-none 3 i h)))
+          ∙ sym (or-false (asked a.n a.m (column_place + i)));
+    }
 
 pub loop-column-preserved : goal.loop-column-preserved
 loop-column-preserved c =
@@ -48,25 +40,23 @@ loop-column-preserved c =
     let own : ℕ → Bool = λ i. asked a.n a.m (column_place + i) in
     let steps : ℕ → Bool = λ i. among (reference_place + 12 * loop.column) a.horizon (column_place + i) in
     let curve = sym c.is_curved.ensures in
-    let f : ℕ → ℕ → Bool = λ i. on a.horizon a.given.now (column_place + i) in (
-      omega arith,
-      elim c.if-is_curved.branch [
-        | then-is_curved w ↦ rw w.words-is (record {
-          each = λ i h.
-              w.with_span-words-then-is_curved.ensures.each i h ∙ ap (λ (t : Bool). t || steps i) (loop.invariant.1.each i h)
-              ∙ one_more (own i) loop.column (f i) (ap (λ (t : Bool). steps i && t) (curve ∙ w.if-is_curved.true) ∙ and-true (steps i));
-        })
-        | else-is_curved w ↦ rw w.words-is (record {
-          each = λ i h.
-              loop.invariant.1.each i h ∙ sym (or-false (own i || any loop.column (f i)))
-              ∙ one_more (own i) loop.column (f i) (ap (λ (t : Bool). steps i && t) (curve ∙ w.if-is_curved.false) ∙ and-false (steps i));
-        })
-      ],
-    )
+    let f : ℕ → ℕ → Bool = λ i. on a.horizon a.given.now (column_place + i) in
+    elim c.if-is_curved.branch [
+      | then-is_curved w ↦ rw w.words-is (record {
+        each = λ i h.
+            w.with_span-words-then-is_curved.ensures.each i h ∙ ap (λ (t : Bool). t || steps i) (loop.invariant.each i h)
+            ∙ one_more (own i) loop.column (f i) (ap (λ (t : Bool). steps i && t) (curve ∙ w.if-is_curved.true) ∙ and-true (steps i));
+      })
+      | else-is_curved w ↦ rw w.words-is (record {
+        each = λ i h.
+            loop.invariant.each i h ∙ sym (or-false (own i || any loop.column (f i)))
+            ∙ one_more (own i) loop.column (f i) (ap (λ (t : Bool). steps i && t) (curve ∙ w.if-is_curved.false) ∙ and-false (steps i));
+      })
+    ]
 
 pub returns : goal.returns
 unfolding required on_curve
 returns c =
     let a = c.args in
     let z : c.loop-column.column ≡ a.n + a.m = omega arith in
-    rw z at c.loop-column.invariant.1
+    rw z at c.loop-column.invariant

@@ -1,15 +1,10 @@
-use Prim.Native.Nat.{ℕ, ◌+◌, ◌-◌, ◌*◌, ◌≤◌}
-use mathlib.Core.Path.{◌≡◌, sym, ap, ◌∙◌}
-use mathlib.Core.Bool.{Bool, ◌&&◌, ◌||◌, and-true, and-false, or_assoc, or-false}
+use Prim.Native.Nat.{ℕ, ◌+◌, ◌*◌}
+use mathlib.Core.Bool.{Bool, ◌&&◌, ◌||◌}
 use mathlib.Core.List.{List}
-use mathlib.Core.Logic.{⊎_elim}
-use native.Mathlib.Numerals.{add-one}
-use native.Mathlib.Omega.{arith}
 use Rattle.integer.specs.Tests.{any}
 use Rattle.words.specs.Words.{HoldAll}
-use Rattle.words.proofs.Bits.{bit-none}
 use Rattle.commands.specs.Marks.{column_place, start_place, rounds_place, reference_place}
-use Rattle.commands.specs.Required.{among, curved, on_curve, required}
+use Rattle.commands.specs.Required.{among, curved}
 use Rattle.marks.proofs.required_words.Given as goal
 
 -- required for itself
@@ -21,8 +16,4 @@ abbrev pub on : ℕ → List Bool → ℕ → ℕ → Bool
 on horizon given p column = among (reference_place + 12 * column) horizon p && curved horizon given column
 
 abbrev pub invariant-loop-column : goal.invariant-loop-column
-invariant-loop-column l =
-    (l.column ≤ l.n + l.m) × HoldAll l.words (λ i. asked l.n l.m (column_place + i) || any l.column (on l.horizon l.given (column_place + i)))
-
-abbrev pub decreases-loop-column : goal.decreases-loop-column
-decreases-loop-column l = l.n + l.m - l.column
+invariant-loop-column l = HoldAll l.words (λ i. asked l.n l.m (column_place + i) || any l.column (on l.horizon l.given (column_place + i)))

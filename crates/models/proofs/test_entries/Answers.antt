@@ -1,43 +1,34 @@
-use Prim.Native.Nat.{ℕ, ◌+◌, zero-le}
+use Prim.Native.Nat.{◌+◌}
 use mathlib.Core.Path.{◌≡◌, sym, ap, ◌∙◌}
-use mathlib.Core.List.{List}
 use native.Mathlib.Omega.{arith}
-use native.Mathlib.Nat.{add-zero}
+use borrow.Author.Rules.{rules}
 use lib.ListN.{get_or, drop}
-use lib.Ieee.{Float, nan}
+use lib.Ieee.{nan}
+use Rattle.std.specs.Prelude.{Result, Err}
+use Rattle.tape.specs.declared.refusal.Refusal.{Refusal}
 use Rattle.import.specs.Entries.{imported}
 use Rattle.models.specs.Models.{verdict, first, tested}
-use Rattle.import.specs.declared.Entry.{Entry}
-use Rattle.models.specs.declared.Model.{Model}
 use Rattle.models.proofs.Tested.{tested-step, tested-none}
 use Rattle.models.proofs.test_entries.Goals as goal
+use Rattle.models.proofs.test_entries.Goals.{After-test_entry}
 
--- a verdict, and the entries behind place i
-abbrev then : ℕ → ℕ → List Float → Model → Model
-then count i l v = first v (tested (count + (i + 1)) (drop (i + 1) l))
+-- what is tested from place i on, by the verdict on the entry there
+module _ (c : After-test_entry) where
+  on : {v : Result (Unit {0}) Refusal} → c.test_entry.result ≡ v →
+      tested c.args.count c.args.entries.now ≡ first v (tested (c.args.count + (c.loop-i.i + 1)) (drop (c.loop-i.i + 1) c.args.entries.now))
+  on e = let n = c.args.count in let x = c.args.entries.now in let i = c.loop-i.i in
+      let v : verdict (n + i) (imported (get_or x i nan)) ≡ c.test_entry.result = sym c.test_entry.ensures in
+      c.loop-i.invariant ∙ tested-step n i x (omega arith) ∙ ap (λ (v : Result (Unit {0}) Refusal). first v (tested (n + (i + 1)) (drop (i + 1) x))) (v ∙ e)
 
--- the verdict that the two calls give
-found : (count : ℕ) (a : Float) {e : Entry} {v : Model} → e ≡ imported a → v ≡ verdict count e → verdict count (imported a) ≡ v
-found count a i j = ap (verdict count) (sym i) ∙ sym j
-
-pub loop-i-init : goal.loop-i-init
-loop-i-init c = (zero-le, ap (λ (n : ℕ). tested n c.args.entries.now) (sym (add-zero c.args.count)))
-
-pub returns-in-Refused : goal.returns-in-Refused
-returns-in-Refused c =
-    let l = c.loop-i in
-    let x = c.args.entries.now in
-    let n = c.args.count in
-    sym (l.invariant.1 ∙ tested-step n l.i x (omega arith) ∙ ap (then n l.i x) (found (n + l.i) (get_or x l.i nan) c.import_entry.ensures.value c.verdict-answer.ensures ∙ c.in-Refused.is))
+pub returns-in_err-test_entry : goal.returns-in_err-test_entry
+returns-in_err-test_entry c =
+    let e : c.from_residual.result ≡ Err c.in_err-test_entry.field-0.0 = search rules in
+    e ∙ sym (on (goal.at.returns-in_err-test_entry c).After-test_entry c.in_err-test_entry.was)
 
 pub loop-i-preserved : goal.loop-i-preserved
-loop-i-preserved c =
-    let l = c.loop-i in
-    let x = c.args.entries.now in
-    let n = c.args.count in
-    (omega arith, l.invariant.1 ∙ tested-step n l.i x (omega arith) ∙ ap (then n l.i x) (found (n + l.i) (get_or x l.i nan) c.import_entry.ensures.value c.verdict-answer.ensures ∙ c.in_default.is))
+loop-i-preserved c = on (goal.at.loop-i-preserved c).After-test_entry c.in_ok-test_entry.was
 
 pub returns : goal.returns
 returns c =
     let l = c.loop-i in
-    tested-none (c.args.count + l.i) c.args.entries.now l.i (omega arith) ∙ sym l.invariant.1
+    tested-none (c.args.count + l.i) c.args.entries.now l.i (omega arith) ∙ sym l.invariant

@@ -2,10 +2,12 @@ use Prim.Native.Nat.{◌≤◌}
 use mathlib.Core.Path.{◌≡◌, sym, ap, ◌∙◌}
 use mathlib.Core.Bool.{false}
 use native.Mathlib.Omega.{arith}
+use borrow.Author.Rules.{rules}
 use lib.ListN.{length}
+use Rattle.std.specs.Prelude.{Result, Err}
 use Rattle.commands.specs.Format.{wrong_size}
+use Rattle.tape.specs.declared.refusal.Refusal.{Refusal}
 use Rattle.models.specs.Models.{wrong_length, first, tested, model_answer}
-use Rattle.models.specs.declared.Model.{Model}
 use Rattle.models.proofs.Tested.{right_size, size-refused, length-refused, entries_answer, few}
 use Rattle.models.proofs.test_model.Goals as goal
 use Rattle.models.proofs.test_model.Goals.{Else-is_wrong_length}
@@ -31,23 +33,23 @@ module _ (c : Else-is_wrong_length) where
   short : let s = c.args in (length s.a.now ≤ 36) × (length s.b.now ≤ 24)
   short = let s = c.args in few s.n s.m s.a.now s.b.now s.out sizes lengths
 
-  answer : let s = c.args in first (tested 0 s.a.now) (tested (length s.a.now) s.b.now) ≡ model_answer s.n s.m s.a.now s.b.now s.out
-  answer = let s = c.args in entries_answer s.n s.m s.a.now s.b.now s.out sizes lengths
-
-pub test_entries-first-requires : goal.test_entries-first-requires
-test_entries-first-requires c = omega (arith, short c)
-
-pub returns-in-Refused : goal.returns-in-Refused
-returns-in-Refused c =
-    let b = c.args in
-    sym (ap (λ (v : Model). first v (tested (length b.a.now) b.b.now)) (sym c.test_entries-first.ensures ∙ c.in-Refused.is)) ∙ answer (goal.at.returns-in-Refused c).Else-is_wrong_length
+  -- the answer, by what the entries of A are found to be
+  answer : {v : Result (Unit {0}) Refusal} → let s = c.args in tested 0 s.a.now ≡ v → first v (tested (length s.a.now) s.b.now) ≡ model_answer s.n s.m s.a.now s.b.now s.out
+  answer e = let s = c.args in
+      ap (λ (v : Result (Unit {0}) Refusal). first v (tested (length s.a.now) s.b.now)) (sym e) ∙ entries_answer s.n s.m s.a.now s.b.now s.out sizes lengths
 
 pub test_entries-requires : goal.test_entries-requires
-test_entries-requires c = omega (arith, short (goal.at.test_entries-requires c).Else-is_wrong_length)
+test_entries-requires c = omega (arith, short c)
+
+pub returns-in_err-test_entries : goal.returns-in_err-test_entries
+returns-in_err-test_entries c =
+    let e : c.from_residual.result ≡ Err c.in_err-test_entries.field-0.0 = search rules in
+    e ∙ answer (goal.at.returns-in_err-test_entries c).Else-is_wrong_length (sym c.test_entries.ensures ∙ c.in_err-test_entries.was)
+
+pub test_entries-requires-2 : goal.test_entries-requires-2
+test_entries-requires-2 c = omega (arith, short (goal.at.test_entries-requires-2 c).Else-is_wrong_length)
 
 pub returns : goal.returns
 returns c =
-    let b = c.args in
-    c.test_entries.ensures
-    ∙ sym (ap (λ (v : Model). first v (tested (length b.a.now) b.b.now)) (sym c.test_entries-first.ensures ∙ c.in_default.is))
-    ∙ answer (goal.at.returns c).Else-is_wrong_length
+    c.test_entries-2.ensures
+    ∙ answer (goal.at.returns c).Else-is_wrong_length (sym c.test_entries.ensures ∙ c.in_ok-test_entries.was)

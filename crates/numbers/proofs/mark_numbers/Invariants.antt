@@ -1,4 +1,3 @@
-use Prim.Native.Nat.{◌-◌, ◌≤◌}
 use lib.ListN.{replicate}
 use lib.IntN.{pos}
 use Rattle.integer.specs.Places.{Stretch}
@@ -7,7 +6,4 @@ use Rattle.numbers.specs.Numbers.{mark_number}
 use Rattle.numbers.proofs.mark_numbers.Given as goal
 
 abbrev pub invariant-loop-p : goal.invariant-loop-p
-invariant-loop-p l = (l.p ≤ 120) × Stretch 0 l.p (λ q. mark_number (marked l.given q)) (replicate 120 (pos 0)) l.marks
-
-abbrev pub decreases-loop-p : goal.decreases-loop-p
-decreases-loop-p l = 120 - l.p
+invariant-loop-p l = Stretch 0 l.p (λ q. mark_number (marked l.fn.given q)) (replicate 120 (pos 0)) l.marks

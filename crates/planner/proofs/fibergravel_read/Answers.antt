@@ -1,19 +1,18 @@
-use mathlib.Core.Path.{refl}
+use mathlib.Core.Path.{sym, ◌∙◌}
+use native.Mathlib.Omega.{arith}
 use Rattle.integer.proofs.Operand.{bytes_of}
+use Rattle.tape.specs.Reading.{reading}
 use Rattle.tape.proofs.Facts.{legal}
-use Rattle.solver.proofs.Small.{small_read}
+use Rattle.tape.proofs.Told.{told_ok}
+use Rattle.planner.proofs.Figures.{small_told}
+use Rattle.planner.proofs.Answered.{small_mapped}
 use Rattle.planner.proofs.fibergravel_read.Goals as goal
 
-pub numbers_of-requires : goal.numbers_of-requires
-numbers_of-requires c =
-    rw c.read-result.ensures (legal c.args.tape.now (bytes_of c.shared_slice_known-1.given) (rw c.read-result.ensures at c.in-Accepted.is))
+pub map-requires : goal.map-requires
+map-requires c = λ t e.
+    let s = c.args.tape.now in
+    let r = told_ok (reading s) (sym c.read.ensures ∙ e) in
+    rw r.1 at (legal s (bytes_of c.type_inv.tape) r.0)
 
-pub code-requires : goal.code-requires
-code-requires c = rw (rw c.read-result.ensures at c.in-Refused.is) at (small_read c.args.tape.now)
-
-pub returns-in-Accepted : goal.returns-in-Accepted
-returns-in-Accepted c =
-    rw (rw c.read-result.ensures at c.in-Accepted.is) (record { value = refl; out_after = rw c.read-result.ensures at c.numbers_of.ensures })
-
-pub returns-in-Refused : goal.returns-in-Refused
-returns-in-Refused c = rw (rw c.read-result.ensures at c.in-Refused.is) (record { value = c.code.ensures; out_after = refl })
+pub answer-requires : goal.answer-requires
+answer-requires c = (omega arith, small_mapped _ c.read.result c.map.result c.map.ensures.cases (rw c.read.ensures (small_told c.args.tape.now)))

@@ -1,64 +1,84 @@
+use Prim.Native.Nat.{ℕ}
 use mathlib.Core.Path.{◌≡◌, sym, ◌∙◌, ap}
-use lib.IntN.{ℤ}
-use Rattle.integer.proofs.Operand.{Bytes, bytes_of}
+use mathlib.Core.List.{List}
+use native.Mathlib.Omega.{arith}
+use lib.IntN.{ℤ, pos}
+use borrow.Author.Rules.{rules}
+use Rattle.std.specs.Prelude.{Ok, Err}
+use Rattle.integer.specs.Order.{◌≼◌}
+use Rattle.integer.proofs.Operand.{bytes_of}
 use Rattle.integer.proofs.Order.{le_trans}
-use Rattle.integer.proofs.Sizes.{called, back}
-use Rattle.judge.specs.declared.Judged.TheVariants.{Gap}
+use Rattle.integer.proofs.Sizes.{back, back_is}
+use Rattle.commands.specs.Ranges.{most_wanted}
+use Rattle.tape.specs.Reading.{reading}
+use Rattle.tape.proofs.Told.{told_ok, told_err}
 use Rattle.judge.specs.Judging.{judged}
-use Rattle.judge.proofs.Granted.{granted, gap_nonneg}
-use Rattle.ranges.specs.declared.Ranging.TheVariants.{Ranges, Refused}
+use Rattle.judge.proofs.Granted.{Granted, granted, gap_nonneg}
 use Rattle.ranges.specs.Ranges.{ranges_of}
 use Rattle.ranges.proofs.Duties.{ranges_promise}
+use Rattle.ranges.proofs.EndSizes.{wanted-size}
 use Rattle.ranges.proofs.judge_ranges.Goals as goal
-use Rattle.ranges.proofs.judge_ranges.Tie as tie
-use Rattle.ranges.proofs.judge_ranges.Reads as reads
-use Rattle.ranges.proofs.judge_ranges.Lts as lts
+use Rattle.ranges.proofs.judge_ranges.Goals.{In_ok-gap}
 
-bytes : (c : lts.After-judge_plan tie.the-claims reads.Pre reads.Post tie.handed_clauses) → Bytes c.args.tape.now
-bytes c = bytes_of c.shared_slice_known-1.given
+pub returns-in_err-t : goal.returns-in_err-t
+unfolding ranges_of judged
+returns-in_err-t c =
+    let a = c.args in
+    let e : c.from_residual.result ≡ Err c.in_err-t.field-0.0 = search rules in
+    let p = ranges_promise a.tape.now a.plan.now a.multipliers.now (bytes_of c.type_inv.tape) {r = c.from_residual.result}
+    (rw (told_err (reading a.tape.now) (sym c.read.ensures ∙ c.in_err-t.was)) e) in
+    record { value = p.0; bounding = p.1 }
 
--- the gap that judging gave
-module _ (c : lts.After-read tie.the-claims reads.Pre reads.Post tie.handed_clauses) where
-  abbrev given : lts.After-judge_plan tie.the-claims reads.Pre reads.Post tie.handed_clauses
-  given = c.before.before
+pub returns-in_err-gap : goal.returns-in_err-gap
+unfolding ranges_of
+returns-in_err-gap c =
+    let a = c.args in
+    let e : c.from_residual-in_err-gap.result ≡ Err c.in_err-gap.field-0.0 = search rules in
+    let p = ranges_promise a.tape.now a.plan.now a.multipliers.now (bytes_of c.type_inv.tape) {r = c.from_residual-in_err-gap.result}
+    (rw (sym c.judge_plan.ensures.value ∙ c.in_err-gap.was) e) in
+    record { value = p.0; bounding = p.1 }
+
+-- the gap that judging gave, from 0 to the most that a tape wants
+module _ (c : In_ok-gap) where
+  abbrev s : List ℕ
+  s = c.args.tape.now
 
   abbrev gap : ℤ
-  gap = c.in-Gap.gap
+  gap = c.in_ok-gap.gap
+
+  tape_is : (reading s).tape ≡ c.in_ok-t.t
+  tape_is = (told_ok (reading s) (sym c.read.ensures ∙ c.in_ok-t.was)).1
+
+  judged_gap : judged s c.args.plan.now c.args.multipliers.now ≡ Ok gap
+  judged_gap = sym c.judge_plan.ensures.value ∙ c.in_ok-gap.was
+
+  grant : Granted (reading s).tape c.args.multipliers.now gap
+  grant = granted s c.args.plan.now c.args.multipliers.now (bytes_of c.type_inv.tape) gap judged_gap
+
+  nonneg : pos 0 ≼ gap
+  nonneg = gap_nonneg s c.args.plan.now c.args.multipliers.now (bytes_of c.type_inv.tape) gap judged_gap
+
+  small : gap ≼ pos most_wanted
+  small = le_trans grant.wanted grant.lawful.wanted.1
 
   gap_back : back gap ≡ gap
-  gap_back = called gap c.in-Gap.known_told-1-own.given.0.1
-
-  judged_gap : let a = given.args in judged a.tape.now a.plan.now a.multipliers.now ≡ Gap gap
-  judged_gap = sym given.judge_plan-judged.ensures.value ∙ c.in-Gap.is
+  gap_back = back_is gap (wanted-size gap nonneg small) (omega arith)
 
 pub first_ranges-requires : goal.first_ranges-requires
 first_ranges-requires c =
-    let r = c.before.before in
-    let j = given r in
-    let a = j.args in
-    let g = granted a.tape.now a.plan.now a.multipliers.now (bytes j) (gap r) (judged_gap r) in
-    let wanted = g.lawful.wanted.1 in
-    rw (r.read-result.ensures, gap_back r)
+    let g = grant c in
+    let t = tape_is c in
+    rw (gap_back c)
     (record {
-      legal = (g.lawful, g.long, g.ranged);
-      pos = (gap_nonneg a.tape.now a.plan.now a.multipliers.now (bytes j) (gap r) (judged_gap r), le_trans g.wanted wanted);
+      legal = (rw t at g.lawful, rw t at g.long, g.ranged);
+      pos = (nonneg c, small c);
     })
 
-pub returns-in-Gap : goal.returns-in-Gap
+pub returns : goal.returns
 unfolding ranges_of
-returns-in-Gap c =
-    let r = c.before.before.before in
-    let j = given r in
-    let a = j.args in
-    let p = ranges_promise a.tape.now a.plan.now a.multipliers.now (bytes j) {r = Ranges c.first_ranges.result}
-    (rw (judged_gap r) (ap Ranges (rw (r.read-result.ensures, gap_back r) at c.first_ranges.ensures))) in
-    record { value = p.0; bounding = p.1 }
-
-pub returns-in-Refused : goal.returns-in-Refused
-unfolding ranges_of
-returns-in-Refused c =
-    let j = c.before.before in
-    let a = j.args in
-    let p = ranges_promise a.tape.now a.plan.now a.multipliers.now (bytes j) {r = Refused c.in-Refused.why}
-    (rw (rw j.judge_plan-judged.ensures.value at c.in-Refused.is)) in
+returns c =
+    let a = c.args in
+    let i = (goal.at.returns c).In_ok-gap in
+    let p = ranges_promise a.tape.now a.plan.now a.multipliers.now (bytes_of c.type_inv.tape) {r = Ok c.first_ranges.result}
+    (rw (judged_gap i, tape_is i) (ap Ok (rw (gap_back i) at c.first_ranges.ensures))) in
     record { value = p.0; bounding = p.1 }

@@ -1,12 +1,13 @@
-use Prim.Native.Nat.{◌+◌, ◌*◌, ◌-◌, ◌<◌, ◌≤◌}
+use Prim.Native.Nat.{◌+◌, ◌*◌, ◌<◌, ◌≤◌}
 use mathlib.Core.Path.{◌≡◌, refl, sym, ◌∙◌, ap, ap₂, subst, subst⁻¹}
-use mathlib.Core.Bool.{false}
-use mathlib.Core.Logic.{⊎_elim}
 use mathlib.Core.List.{List}
 use lib.ListN.{replicate}
 use native.Mathlib.Omega.{arith}
+use borrow.Author.Rules.{rules}
 use lib.IntN.{ℤ, pos, nat_abs, ◌+ℤ◌, ◌-ℤ◌}
 use mir.Facts.{to_z-of_z}
+use Rattle.std.specs.Prelude.{Option, Some, None, IfSome, option_map}
+use Rattle.std.proofs.iter.Serving.{serving}
 use Rattle.integer.specs.Order.{◌≼◌}
 use Rattle.integer.specs.Places.{Bounded}
 use Rattle.integer.proofs.Order.{order}
@@ -15,16 +16,17 @@ use Rattle.commands.specs.Ranges.{most_gain}
 use Rattle.tape.specs.declared.Tape.{Tape}
 use Rattle.tape.specs.Legal.{Legal}
 use Rattle.problem.specs.Model.{Plan, problem_of}
-use Rattle.problem.specs.Cost.{plan_cost}
+use Rattle.problem.specs.Cost as costs
+use Rattle.integer.specs.Sum.{sum}
 use Rattle.problem.specs.Dual.{floor, ceiling}
 use Rattle.primal.specs.Padded.{padded, padded_plan}
 use Rattle.primal.specs.Held.{HeldMultipliers, HeldPlan}
 use Rattle.primal.proofs.Filled.{zeros-bounded}
 use Rattle.primal.proofs.TermSizes.{most_cost}
-use Rattle.steps.specs.declared.verdict.Verdict.TheVariants.{Proved, Neither}
+use Rattle.steps.specs.declared.verdict.Verdict.TheVariants.{Proved}
 use Rattle.steps.specs.Steps.{ahead, minimisers, candidate, verdict}
-use Rattle.steps.specs.Held.{HeldUnless, verdict_by}
-use Rattle.banded.proofs.Reduction.{rows_used}
+use Rattle.steps.specs.Held.{verdict_by}
+use Rattle.banded.specs.Rows.{Factored}
 use Rattle.lookup.proofs.NumberSums.{size_inputs_total, size_states_total}
 use Rattle.passes.specs.Sums.{most_forced}
 use Rattle.passes.specs.Followed.{Lends, FollowedBy}
@@ -32,17 +34,17 @@ use Rattle.passes.proofs.SumSizes.{most_pull, forced_bounded, size_pulls}
 use Rattle.rounds.specs.Held.{NextHeld}
 use Rattle.rounds.proofs.Filled.{held-ahead, held_numbers, inputs-within, state_term_lem, forces_are, gain-next}
 use Rattle.rounds.proofs.Sums.{plan_cost_lem, floor-below}
-use Rattle.rounds.proofs.Weighing.{verdict-is, neither_early, proved_kept}
-use Rattle.rounds.proofs.Entered.{Begins, Running, running_start, running_next, open_is, whole_is}
+use Rattle.rounds.proofs.Weighing.{map_same, size_mapped, Costed, costed, verdict-is, neither_early, proved_held}
+use Rattle.rounds.proofs.Entered.{Begins, running_start, running_next, open_is, whole_is}
 use Rattle.rounds.proofs.search.Goals as goal
-use Rattle.rounds.proofs.search.Goals.{then-factored, else-factored, then-may_answer+in-Neither, else-may_answer}
+use Rattle.rounds.proofs.search.Goals.{in-Some, in_default, then-may_answer+in-None, else-may_answer}
 use Rattle.rounds.proofs.search.Tie as tie
 use Rattle.rounds.proofs.search.Reads as reads
 use Rattle.rounds.proofs.search.Lts as lts
 
 -- the places after each call of a round, its begin, and where the function starts
 abbrev begin : lts.At-loop tie.the-claims reads.Pre reads.Post goal.the-invariant-loop-k goal.the-decreases-loop-k tie.handed_clauses → lts.Start tie.the-claims reads.Pre reads.Post goal.the-invariant-loop-k goal.the-decreases-loop-k tie.handed_clauses
-begin c = c.before.before.before.before.before
+begin c = c.before.before.before.before
 
 abbrev turn : lts.After-multipliers_ahead tie.the-claims reads.Pre reads.Post goal.the-invariant-loop-k goal.the-decreases-loop-k tie.handed_clauses → lts.In-loop tie.the-claims reads.Pre reads.Post goal.the-invariant-loop-k goal.the-decreases-loop-k tie.handed_clauses
 turn c = c.before.before.before.before
@@ -157,10 +159,10 @@ pub next_by_band-next-requires : goal.next_by_band-next-requires
 next_by_band-next-requires c =
     let m = minimised (forced c.before) in
     let b = here m in
-    let h = (s b).requires.rows_of in
+    let f = subst (λ o. Factored (t b) o) c.in-Some.is (s b).requires.rows_of.1 in
     let y = held (led m) in
     record {
-      legal = (legal b, sym h.1 ∙ c.if-factored.true, rows_used _ (t b) _ c.if-factored.true h.2, y.blank, y.bounded);
+      legal = (legal b, f.0, f.1, y.blank, y.bounded);
       blank_plan = ((numbers m).blank, (numbers m).bounded);
     }
 
@@ -194,8 +196,8 @@ module _ (c : lts.After-follow tie.the-claims reads.Pre reads.Post goal.the-inva
   abbrev pull : ℤ
   pull = (climbed c).ascend-pull.result
 
-  abbrev following : ℤ
-  following = c.follow-followed.result.cost
+  abbrev followed : Option ℤ
+  followed = c.follow-followed.result
 
   size_inputs : nat_abs inputs ≤ 48 * most_cost
   size_inputs = rw at_minimised.minimise-costs.ensures.inputs_value (size_inputs_total (s round).requires.rows_of.0.rows (t round).horizon (legal round).steps.1 (t round).b (y at_minimised))
@@ -213,13 +215,16 @@ module _ (c : lts.After-follow tie.the-claims reads.Pre reads.Post goal.the-inva
   inputs_is = back_is inputs size_inputs (omega arith)
 
   -- the candidate's cost, where it is kept
-  cost : Formed (back inputs +ℤ back following) (inputs +ℤ following)
-  cost =
-      formed (rw (inputs_is, back_is following c.follow-followed.ensures.cost_bound (omega arith)))
-      (size-add inputs following size_inputs c.follow-followed.ensures.cost_bound) (omega arith)
+  abbrev whole : Option ℤ
+  whole = option_map (λ x. inputs +ℤ x) followed
 
-  size_cost : nat_abs (inputs +ℤ following) ≤ 200540160000000000
-  size_cost = size-add inputs following size_inputs c.follow-followed.ensures.cost_bound
+  summed : (x : ℤ) → followed ≡ Some x → Formed (back inputs +ℤ back x) (inputs +ℤ x)
+  summed x e =
+      let small = rw e at c.follow-followed.ensures.cost_bound in
+      formed (rw (inputs_is, back_is x small (omega arith))) (size-add inputs x size_inputs small) (omega arith)
+
+  size_whole : IfSome whole (λ x. nat_abs x ≤ 200540160000000000)
+  size_whole = size_mapped (λ x. inputs +ℤ x) followed (λ x small. size-add inputs x size_inputs small) c.follow-followed.ensures.cost_bound
 
   -- the bound on the floor
   own : Formed (back inputs +ℤ back states) (inputs +ℤ states)
@@ -232,9 +237,13 @@ module _ (c : lts.After-follow tie.the-claims reads.Pre reads.Post goal.the-inva
   bound : Formed (back (back inputs +ℤ back states) +ℤ back pull) (inputs +ℤ states +ℤ pull)
   bound = formed (rw (own.is, called pull (climbed c).ascend-pull.type_inv)) size_upper (omega arith)
 
-  gap : Formed (back (back inputs +ℤ back following) -ℤ back (back (back inputs +ℤ back states) +ℤ back pull)) (inputs +ℤ following -ℤ (inputs +ℤ states +ℤ pull))
-  gap =
-      formed (rw (cost.is, bound.is)) (size-sub (inputs +ℤ following) (inputs +ℤ states +ℤ pull) size_cost size_upper) (omega arith)
+  abbrev upper : ℤ
+  upper = inputs +ℤ states +ℤ pull
+
+  gap : (x : ℤ) → whole ≡ Some x → Formed (back x -ℤ back (back (back inputs +ℤ back states) +ℤ back pull)) (x -ℤ upper)
+  gap x e =
+      let small = rw e at size_whole in
+      formed (rw (back_is x small (omega arith), bound.is)) (size-sub x upper small size_upper) (omega arith)
 
   -- step 3: what the model gives from the inputs of step 2
   abbrev following_plan : Plan
@@ -256,19 +265,23 @@ module _ (c : lts.After-follow tie.the-claims reads.Pre reads.Post goal.the-inva
   followed_by : FollowedBy (t round) (padded_plan (v at_minimised)).u c.follow-followed.new.plan c.follow-followed.result
   followed_by = c.follow-followed.ensures.followed_by (t round) lends
 
-  cost_is : c.follow-followed.result.dropped ≡ false → inputs +ℤ following ≡ plan_cost (problem_of (t round)) following_plan
-  cost_is e =
-      ap₂ (λ (a b : ℤ). a +ℤ b) at_minimised.minimise-costs.ensures.inputs_value (followed_by.cost e)
-      ∙ plan_cost_lem (t round) (legal round) (y at_minimised) (s round).requires.legal.1 (s round).requires.rows_of.0 at_minimised.minimise-costs.ensures.steps.0 following_plan.x
+  abbrev state_costs : ℤ
+  state_costs = sum (t round).horizon (λ k. sum (t round).n (λ i. costs.cost ((problem_of (t round)).state_term k i) (following_plan.x k i)))
+
+  kept : Costed (t round) following_plan c.follow-followed.new.plan whole
+  kept =
+      costed followed inputs followed_by
+      (ap (λ (z : ℤ). z +ℤ state_costs) at_minimised.minimise-costs.ensures.inputs_value
+      ∙ plan_cost_lem (t round) (legal round) (y at_minimised) (s round).requires.legal.1 (s round).requires.rows_of.0 at_minimised.minimise-costs.ensures.steps.0 following_plan.x)
 
   abbrev lowest : ℤ
   lowest = floor (problem_of (t round)) (padded (y at_minimised))
 
-  decided : verdict_by c.follow-followed.result.dropped (inputs +ℤ following -ℤ lowest) (t round).wanted (ceiling (problem_of (t round))) lowest
+  decided : verdict_by (option_map (λ x. x -ℤ lowest) whole) (t round).wanted (ceiling (problem_of (t round))) lowest
       ≡ verdict (t round) following_plan (padded (y at_minimised))
-  decided = verdict-is (t round) following_plan (padded (y at_minimised)) c.follow-followed.result.dropped (inputs +ℤ following) followed_by.same cost_is
+  decided = verdict-is whole (padded (y at_minimised)) kept
 
-  below : lowest ≼ inputs +ℤ states +ℤ pull
+  below : lowest ≼ upper
   below =
       let e = at_minimised.minimise-costs.ensures in
       subst⁻¹ (λ (z : ℤ). lowest ≼ z)
@@ -284,104 +297,119 @@ module _ (c : lts.After-follow tie.the-claims reads.Pre reads.Post goal.the-inva
       let r = (legal round).wanted in
       back_is (t round).wanted {B = 4294967295} (omega (arith, order, size_parts (t round).wanted)) (omega arith)
 
-  abbrev joined : lts.Joined1 tie.the-claims reads.Pre reads.Post goal.the-invariant-loop-k goal.the-decreases-loop-k tie.handed_clauses
+  abbrev joined : lts.At-match-branch tie.the-claims reads.Pre reads.Post goal.the-invariant-loop-k goal.the-decreases-loop-k tie.handed_clauses
   joined = c.before.before.before.before.before.before
 
   -- step 4, by either command
-  next_held : NextHeld (t round) (y at_minimised) (v at_minimised) joined.if-factored.next
+  next_held : NextHeld (t round) (y at_minimised) (v at_minimised) joined.match-factored.next
   next_held =
-      let h = (s round).requires.rows_of in
       let Next : List ℤ → Type 0 = λ l. NextHeld (t round) (y at_minimised) (v at_minimised) l in
-      elim joined.if-factored.branch [
-        | then-factored w ↦ subst⁻¹ Next w.next-is w.next_by_band-next.ensures
-        | else-factored w ↦ subst⁻¹ Next w.next-is
-            (gain-next (t round) (legal round) (numbers at_minimised).blank (y at_minimised) at_forced.force.ensures (sym h.1 ∙ w.if-factored.false)
+      elim joined.match-factored.branch [
+        | in-Some w ↦ subst⁻¹ Next w.next-is w.next_by_band-next.ensures
+        | in_default w ↦ subst⁻¹ Next w.next-is
+            (gain-next (t round) (legal round) (numbers at_minimised).blank (y at_minimised) at_forced.force.ensures
+            (subst (λ o. Factored (t round) o) w.in_default.is (s round).requires.rows_of.1)
             (held (led at_minimised)).blank (rw (gain_is round) at (climbed c).ascend-pull.ensures.steps.0))
       ]
 
-pub overflow_add-cost : goal.overflow_add-cost
-overflow_add-cost c = (cost c.before.before.before.before.before).fits
+pub map-cost-requires : goal.map-cost-requires
+map-cost-requires c = λ x e. search (rules, serving, (summed c.before.before x e).fits)
 
 pub overflow_add-upper : goal.overflow_add-upper
-overflow_add-upper c = (own c.before.before.before.before.before.before.before).fits
+overflow_add-upper c = (own c.before.before.before.before.before).fits
 
 pub overflow_add-upper-in-loop-k : goal.overflow_add-upper-in-loop-k
-overflow_add-upper-in-loop-k c = (bound c.before.before.before.before.before.before.before).fits
+overflow_add-upper-in-loop-k c = (bound c.before.before.before.before.before).fits
 
-pub overflow_add-k : goal.overflow_add-k
-overflow_add-k c = let l = small (round c.before.before.before.before.before.before.before) in omega arith
+costs_are : (c : lts.After-map tie.the-claims reads.Pre reads.Post goal.the-invariant-loop-k goal.the-decreases-loop-k tie.handed_clauses) → c.map-cost.result ≡ whole c.before.before
+costs_are c =
+    let f = c.before.before in
+    let e : c.map-cost.result ≡ option_map (λ x. back (back (inputs f) +ℤ back x)) (followed f) = search rules in
+    e ∙ map_same _ _ (followed f) (λ x h. (summed f x h).is)
 
-pub overflow_sub-least : goal.overflow_sub-least
-overflow_sub-least c = (gap c.before.before.before.before.before.before.before).fits
+pub map-least-requires : goal.map-least-requires
+map-least-requires c =
+    let m : lts.After-map tie.the-claims reads.Pre reads.Post goal.the-invariant-loop-k goal.the-decreases-loop-k tie.handed_clauses = c.before.before.before.before in
+    λ x e. search (rules, serving, (gap m.before.before x (sym (costs_are m) ∙ e)).fits)
+
+gaps_are : (c : lts.After-map2 tie.the-claims reads.Pre reads.Post goal.the-invariant-loop-k goal.the-decreases-loop-k tie.handed_clauses) →
+    let f = c.before.before.before.before.before.before in
+    c.map-least.result ≡ option_map (λ x. x -ℤ upper f) (whole f)
+gaps_are c =
+    let m : lts.After-map tie.the-claims reads.Pre reads.Post goal.the-invariant-loop-k goal.the-decreases-loop-k tie.handed_clauses = c.before.before.before.before in
+    let f = m.before.before in
+    let e : c.map-least.result ≡ option_map (λ x. back (back x -ℤ back (back (back (inputs f) +ℤ back (states f)) +ℤ back (pull f)))) m.map-cost.result = search rules in
+    e ∙ ap (option_map _) (costs_are m) ∙ map_same _ _ (whole f) (λ x h. (gap f x h).is)
+
+abbrev priced : lts.After-may_answer tie.the-claims reads.Pre reads.Post goal.the-invariant-loop-k goal.the-decreases-loop-k tie.handed_clauses → lts.After-map tie.the-claims reads.Pre reads.Post goal.the-invariant-loop-k goal.the-decreases-loop-k tie.handed_clauses
+priced c = c.before.before.before.before.before
 
 abbrev follows : lts.After-may_answer tie.the-claims reads.Pre reads.Post goal.the-invariant-loop-k goal.the-decreases-loop-k tie.handed_clauses → lts.After-follow tie.the-claims reads.Pre reads.Post goal.the-invariant-loop-k goal.the-decreases-loop-k tie.handed_clauses
-follows c = c.before.before.before.before.before.before.before
+follows c = (priced c).before.before
 
-pub weigh-verdict-requires : goal.weigh-verdict-requires
-weigh-verdict-requires c =
+pub weigh-requires : goal.weigh-requires
+weigh-requires c =
     let f = follows c.before.before in
     let b = round f in
     let y = held (led (at_minimised f)) in
     record {
       legal = (legal b, (s b).requires.legal.1, y.blank, y.bounded);
-      cost_bound = rw (cost f).is (size_cost f);
+      cost_bound = rw (costs_are (priced c.before.before)) (size_whole f);
     }
 
 weighed : (c : lts.After-weigh tie.the-claims reads.Pre reads.Post goal.the-invariant-loop-k goal.the-decreases-loop-k tie.handed_clauses) →
     let f = follows c.before.before in
-    c.weigh-verdict.result ≡ verdict (t (round f)) (following_plan f) (padded (y (at_minimised f)))
+    c.weigh.result ≡ verdict (t (round f)) (following_plan f) (padded (y (at_minimised f)))
 weighed c =
     let f = follows c.before.before in
-    rw ((cost f).is, highest_is f) at c.weigh-verdict.ensures ∙ decided f
+    rw (costs_are (priced c.before.before), highest_is f) at c.weigh.ensures ∙ decided f
 
-pub returns-in-Proved : goal.returns-in-Proved
-returns-in-Proved c =
-    let v = c in
-    let w = v in
-    let f = follows w.before.before.before.before in
+pub returns-in-Some-Proved : goal.returns-in-Some-Proved
+returns-in-Some-Proved c =
+    let w = c.before.before in
+    let f = follows w.before.before in
     let b = round f in
+    let m = at_minimised f in
     let e = c.at_end.ensures in
-    let gap = called v.in-Proved.gap c.in-Proved.known_told-1-own.given.0.1 in
-    let told = v.in-Proved.is ∙ ap Proved (sym gap) in
-    let kept = proved_kept f.follow-followed.result.dropped _ _ _ _ (decided f ∙ sym (weighed w.before.before) ∙ told) in
-    let plan = subst (λ d. HeldUnless d (t b) (following_plan f) f.follow-followed.new.plan) kept (followed_by f).held in
-    rw (e.0, e.1, e.2)
+    let v = c.in-Some-Proved in
+    let same : back v.gap ≡ v.gap = search rules in
+    let told = sym (weighed w) ∙ v.is ∙ ap Some (v.field-0-is ∙ ap Proved (sym same)) in
+    let plan = proved_held (t b) (following_plan f) f.follow-followed.new.plan (whole f) _ _ _ _ (decided f ∙ told) (kept f).held in
+    rw (e.0, e.1, e.2, v.gap-is)
     (record {
-      t_value = whole_is (legal b) b.loop-k.invariant (early b) (begins (at_minimised f)) _ (sym (weighed w.before.before) ∙ told) plan;
-      bounded = (plan.bounded, (held (led (at_minimised f))).bounded);
+      t_value = whole_is (legal b) b.loop-k.invariant (early b) (begins m) _ told plan;
+      bounded = (plan.bounded, (held (led m)).bounded);
     })
 
-pub returns-in-Impossible : goal.returns-in-Impossible
-returns-in-Impossible c =
-    let w = c in
-    let f = follows w.before.before.before.before in
+pub returns-in-Some-Impossible : goal.returns-in-Some-Impossible
+returns-in-Some-Impossible c =
+    let x = c.before.before in
+    let f = follows x.before.before in
     let b = round f in
     let m = at_minimised f in
     let e = c.impossible.ensures in
+    let v = c.in-Some-Impossible in
+    let told = sym (weighed x) ∙ v.is ∙ ap Some v.field-0-is in
     rw (e.0, e.1, e.2)
     (record {
-      t_value = whole_is (legal b) b.loop-k.invariant (early b) (begins m) (replicate 120 (pos 0)) (sym (weighed w.before.before) ∙ c.in-Impossible.is) tt;
+      t_value = whole_is (legal b) b.loop-k.invariant (early b) (begins m) (replicate 120 (pos 0)) told tt;
       bounded = (zeros-bounded 120, (held (led m)).bounded);
     })
 
-pub loop-k-smaller : goal.loop-k-smaller
-loop-k-smaller c = let e = early (round (follows c.before.before)) in omega arith
-
 -- the round gave no answer, by its verdict or by the bound alone
-unanswered : (c : lts.Joined2 tie.the-claims reads.Pre reads.Post goal.the-invariant-loop-k goal.the-decreases-loop-k tie.handed_clauses) →
+unanswered : (c : lts.Joined1 tie.the-claims reads.Pre reads.Post goal.the-invariant-loop-k goal.the-decreases-loop-k tie.handed_clauses) →
     let f = follows c.before in
-    verdict (t (round f)) (following_plan f) (padded (y (at_minimised f))) ≡ Neither
+    verdict (t (round f)) (following_plan f) (padded (y (at_minimised f))) ≡ None
 unanswered c =
-    let a = c in
-    let f = follows a.before in
+    let f = follows c.before in
     let b = round f in
     elim c.if-may_answer.branch [
-      | then-may_answer+in-Neither w ↦
-          sym (weighed (record { before = record { before = a.before; if-may_answer = w.if-may_answer }; weigh-verdict = w.weigh-verdict })) ∙ w.in-Neither.is
+      | then-may_answer+in-None w ↦
+          sym (weighed (record { before = record { before = c.before; if-may_answer = w.if-may_answer }; weigh = w.weigh })) ∙ w.in-None.is
       | else-may_answer w ↦
           sym (decided f)
-          ∙ neither_early f.follow-followed.result.dropped (inputs f +ℤ following f) (t b).wanted (ceiling (problem_of (t b))) (lowest f) (inputs f +ℤ states f +ℤ pull f) (below f)
-          (rw ((gap f).is, wanted_is f, highest_is f, (bound f).is) at (sym a.may_answer.ensures ∙ w.if-may_answer.false))
+          ∙ neither_early (whole f) (t b).wanted (ceiling (problem_of (t b))) (lowest f) (upper f) (below f)
+          (rw (gaps_are c.before.before, wanted_is f, highest_is f, (bound f).is) at (sym c.before.may_answer.ensures ∙ w.if-may_answer.false))
     ]
 
 pub loop-k-preserved : goal.loop-k-preserved

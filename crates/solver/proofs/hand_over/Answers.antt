@@ -1,11 +1,13 @@
-use mathlib.Core.Path.{refl}
-use Rattle.integer.proofs.Sizes.{called}
+use mathlib.Core.Path.{◌≡◌, refl}
+use borrow.Author.Rules.{rules}
+use Rattle.integer.proofs.Sizes.{back}
 use Rattle.solver.proofs.hand_over.Goals as goal
 
 pub returns-in-Proved : goal.returns-in-Proved
 returns-in-Proved c =
     let e = c.in-Proved in
-    rw (e.is, called e.gap e.known_told-1-own.given.1.0.1, c.first_duties.ensures)
+    let z : back e.gap ≡ e.gap = search rules in
+    rw (e.is, z, c.first_duties-first.ensures)
     (record { value = refl; plan_after = c.write_plan.ensures; multipliers_after = c.write_multipliers.ensures })
 
 pub returns-in-Impossible : goal.returns-in-Impossible

@@ -8,7 +8,7 @@ use Rattle.solver.proofs.solve_on.Goals as goal
 
 pub overflow_mul-horizon : goal.overflow_mul-horizon
 overflow_mul-horizon c =
-    let t = c.args.t in
+    let t = c.args.t.now in
     let l = c.requires in
     count_fits t.horizon (t.n + t.m) l.steps.1 (omega arith)
 

@@ -1,4 +1,4 @@
-use Prim.Native.Nat.{ℕ, ◌+◌, ◌-◌, ◌*◌, ◌≤◌}
+use Prim.Native.Nat.{ℕ, ◌+◌, ◌*◌}
 use mathlib.Core.Path.{◌≡◌, refl, sym, ap, ap₂, ◌∙◌}
 use mathlib.Core.Bool.{Bool, not, ◌&&◌}
 use mathlib.Core.List.{List}
@@ -6,7 +6,7 @@ use native.Mathlib.Omega.{arith}
 use lib.ListN.{get_or}
 use Rattle.integer.specs.Tests.{count}
 use Rattle.integer.proofs.Tests.{count_cong, count_parts, count-le}
-use Rattle.words.specs.Words.{bit, bit_of}
+use Rattle.words.specs.Words.{bit}
 use Rattle.words.proofs.Bits.{bit_of_lem}
 use Rattle.words.proofs.missing_ones.Invariants.{missing}
 use Rattle.words.proofs.missing_ones.Goals as goal
@@ -24,7 +24,7 @@ one_word_more required given w p q e f =
 
 pub loop-word-init : goal.loop-word-init
 unfolding count
-loop-word-init c = (omega arith, refl)
+loop-word-init c = refl
 
 -- the sum with this word's
 summed : (c : goal.After-missing_in-sum) →
@@ -34,7 +34,7 @@ summed : (c : goal.After-missing_in-sum) →
 summed c =
     let a = c.args in
     let loop = c.loop-word in
-    ap₂ ◌+◌ loop.invariant.1 c.missing_in-sum.ensures ∙ one_word_more a.required.now a.given.now loop.word _ _ (omega arith) (omega arith)
+    ap₂ ◌+◌ loop.invariant c.missing_in-sum.ensures ∙ one_word_more a.required.now a.given.now loop.word _ _ (omega arith) (omega arith)
 
 pub overflow_add-sum : goal.overflow_add-sum
 overflow_add-sum c =
@@ -42,11 +42,8 @@ overflow_add-sum c =
     let loop = c.loop-word in
     record { fits = omega (arith, summed c, count-le (64 * (loop.word + 1)) (missing a.required.now a.given.now)) }
 
-pub loop-word-smaller : goal.loop-word-smaller
-loop-word-smaller c = omega arith
-
 pub loop-word-preserved : goal.loop-word-preserved
-loop-word-preserved c = (omega arith, summed c)
+loop-word-preserved c = summed c
 
 pub returns : goal.returns
-returns c = let e : c.loop-word.word ≡ 3 = omega arith in rw e at c.loop-word.invariant.1
+returns c = let e : c.loop-word.word ≡ 3 = omega arith in rw e at c.loop-word.invariant

@@ -1,4 +1,4 @@
-use Prim.Native.Nat.{ℕ, ◌+◌, ◌-◌, ◌*◌, ◌%◌, ◌^◌, ◌≤◌, ◌<◌}
+use Prim.Native.Nat.{ℕ, ◌+◌, ◌*◌, ◌%◌, ◌^◌, ◌≤◌, ◌<◌}
 use mathlib.Core.Path.{◌≡◌, sym, ap, ap₂, ◌∙◌}
 use mathlib.Core.Bool.{Bool, true, false, ◌&&◌, ◌||◌, and-true, and-false, or-false}
 use mathlib.Core.Logic.{⊎_elim}
@@ -39,24 +39,19 @@ module _ (f : ℕ → Bool) (b word : ℕ) (below : Below f b word) where
 pub loop-b-init : goal.loop-b-init
 loop-b-init c =
     let f : ℕ → Bool = λ j. get_or c.args.marks.now (c.args.first + j) false in
-    (omega arith, λ j. bit_zero j ∙ sym (ap (λ (t : Bool). t && f j) (le-ltb j 0 (omega arith))))
-
-pub loop-b-smaller : goal.loop-b-smaller
-loop-b-smaller c = omega arith
+    λ j. bit_zero j ∙ sym (ap (λ (t : Bool). t && f j) (le-ltb j 0 (omega arith)))
 
 pub loop-b-preserved : goal.loop-b-preserved
 loop-b-preserved c =
     let a = c.args in
     let loop = c.loop-b in
-    let f : ℕ → Bool = λ j. get_or a.marks.now (a.first + j) false in (
-      omega arith,
-      elim c.if-is_marked.branch [
-        | then-is_marked w ↦ rw w.word-is (with_bit f loop.b loop.word loop.invariant.1 (omega arith) (sym c.is_marked.ensures ∙ w.if-is_marked.true))
-        | else-is_marked w ↦ rw w.word-is (without_bit f loop.b loop.word loop.invariant.1 (sym c.is_marked.ensures ∙ w.if-is_marked.false))
-      ],
-    )
+    let f : ℕ → Bool = λ j. get_or a.marks.now (a.first + j) false in
+    elim c.if-is_marked.branch [
+      | then-is_marked w ↦ rw w.word-is (with_bit f loop.b loop.word loop.invariant (omega arith) (sym c.is_marked.ensures ∙ w.if-is_marked.true))
+      | else-is_marked w ↦ rw w.word-is (without_bit f loop.b loop.word loop.invariant (sym c.is_marked.ensures ∙ w.if-is_marked.false))
+    ]
 
 pub returns : goal.returns
 returns c =
     let z : c.loop-b.b ≡ c.args.count = omega arith in
-    record { each = λ j h. rw z at (c.loop-b.invariant.1 j) }
+    record { each = λ j h. rw z at (c.loop-b.invariant j) }

@@ -1,5 +1,6 @@
-use Prim.Native.Nat.{◌-◌}
+use Prim.Native.Nat.{◌+◌, ◌*◌}
 use mathlib.Core.Path.{refl}
+use borrow.Author.Rules.{rules}
 use borrow.Author.Tests.{eq-eqb, ne_eqb}
 use Rattle.integer.specs.Places.{at}
 use Rattle.integer.proofs.Sizes.{called}
@@ -16,7 +17,7 @@ returns-then-s-k c = rw (eq-eqb _ _ c.if-s-k.true, ne_eqb _ _ c.if-c-i.false) re
 
 pub returns-then-s-k-2 : goal.returns-then-s-k-2
 unfolding state_coefficient
-returns-then-s-k-2 c = rw (called (at c.args.a.now _) c.result-1.given, ne_eqb _ _ c.if-s-k.false, eq-eqb _ _ c.if-s-k-2.true) refl
+returns-then-s-k-2 c = rw (called (at c.args.a.now (6 * c.args.i + c.args.c)) (search rules), ne_eqb _ _ c.if-s-k.false, eq-eqb _ _ c.if-s-k-2.true) refl
 
 pub returns : goal.returns
 unfolding state_coefficient

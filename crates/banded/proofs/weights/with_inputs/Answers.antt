@@ -1,19 +1,15 @@
-use Prim.Native.Nat.{◌≤◌, ◌+◌, ◌-◌}
+use Prim.Native.Nat.{◌+◌}
 use mathlib.Core.Path.{◌≡◌, refl, ◌∙◌}
 use native.Mathlib.Omega.{arith}
-use lib.IntN.{pos, ◌*ℤ◌}
-use Rattle.integer.specs.Places.{at}
 use Rattle.integer.proofs.Sizes.{called, element_is}
 use Rattle.banded.specs.Floats.{sum_from}
-use Rattle.primal.specs.Padded.{input_matrix}
-use Rattle.banded.specs.Weights.{input_share}
 use Rattle.banded.proofs.Solving.{sum-with}
 use Rattle.banded.proofs.WeightLaws.{sized_back, share_cong, input-size}
 use Rattle.banded.proofs.weights.with_inputs.Goals as goal
 
 pub loop-c-init : goal.loop-c-init
 unfolding sum_from
-loop-c-init c = (omega arith, refl)
+loop-c-init c = refl
 
 pub share_of-total-requires : goal.share_of-total-requires
 share_of-total-requires c =
@@ -31,14 +27,12 @@ loop-c-preserved c =
     let start = c.before.before.before.before.before.before in
     let l = c.loop-c in
     let x = c.input_coefficient-x in
-    let y = c.input_coefficient-y in (
-      omega arith,
-      sum-with _ l.c _ l.total _ l.invariant.1
-          (c.share_of-total.ensures
-          ∙ share_cong _ _ _ _ _ _ (called x.result x.type_inv ∙ x.ensures) (called y.result y.type_inv ∙ y.ensures) (element_is start.requires.5 (omega arith) (start.args.n + l.c))),
-    )
+    let y = c.input_coefficient-y in
+    sum-with _ l.c _ l.total _ l.invariant
+    (c.share_of-total.ensures
+    ∙ share_cong _ _ _ _ _ _ (called x.result x.type_inv ∙ x.ensures) (called y.result y.type_inv ∙ y.ensures) (element_is start.requires.5 (omega arith) (start.args.n + l.c)))
 
 pub returns : goal.returns
 returns c =
     let e : c.loop-c.c ≡ c.args.m = omega arith in
-    rw e at c.loop-c.invariant.1
+    rw e at c.loop-c.invariant

@@ -1,19 +1,12 @@
-use Prim.Native.Nat.{◌≤◌, ◌+◌, ◌-◌}
-use mathlib.Core.Path.{◌≡◌, refl, ◌∙◌}
-use native.Mathlib.Omega.{arith}
+use Prim.Native.Nat.{◌+◌}
+use mathlib.Core.Path.{◌≡◌}
 use lib.IntN.{pos, ◌*ℤ◌}
 use Rattle.integer.specs.Places.{at}
-use Rattle.integer.proofs.Sizes.{called, element_is}
 use Rattle.banded.specs.Floats.{sum_from}
 use Rattle.primal.specs.Padded.{input_matrix}
 use Rattle.banded.specs.Weights.{input_share}
-use Rattle.banded.proofs.Solving.{sum-with}
-use Rattle.banded.proofs.WeightLaws.{sized_back, share_cong, input-size}
 use Rattle.banded.proofs.weights.with_inputs.Given as goal
 
 abbrev pub invariant-loop-c : goal.invariant-loop-c
 invariant-loop-c l =
-    (l.c ≤ l.m) × (l.total ≡ sum_from l.sum l.c (input_share (input_matrix l.b) (λ q. pos 4096 *ℤ at l.weight (l.n + q)) l.k l.i l.l l.j l.s))
-
-abbrev pub decreases-loop-c : goal.decreases-loop-c
-decreases-loop-c l = l.m - l.c
+    l.total ≡ sum_from l.sum l.c (input_share (input_matrix l.b) (λ q. pos 4096 *ℤ at l.weight (l.n + q)) l.k l.i l.l l.j l.s)

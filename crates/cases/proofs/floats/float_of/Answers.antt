@@ -1,4 +1,4 @@
--- `import_test::float_of`: only NaNs lie above the pattern of an infinity.
+-- Only NaNs lie above the pattern of an infinity.
 use mathlib.Core.Path.{◌∙◌}
 use lib.Ieee.{binary64}
 use lib.Ieee.Bits.{nan_bits_above}

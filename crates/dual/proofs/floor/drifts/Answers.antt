@@ -1,47 +1,31 @@
-use Prim.Native.Nat.{◌+◌, ◌-◌, ◌≤◌}
-use mathlib.Core.Path.{◌≡◌, sym}
+use Prim.Native.Nat.{ℕ, ◌+◌, ◌*◌}
+use mathlib.Core.Path.{◌≡◌, ap, ◌∙◌}
+use mathlib.Core.List.{List}
 use native.Mathlib.Omega.{arith}
-use lib.IntN.{◌+ℤ◌}
-use mir.Syntax.{w64}
-use mir.Val.{to_z}
+use lib.IntN.{ℤ, ◌*ℤ◌}
+use Rattle.std.proofs.Common.{rules}
+use Rattle.integer.specs.Places.{at}
 use Rattle.integer.specs.Sum.{sum}
-use Rattle.integer.proofs.Sizes.{back, Formed}
-use Rattle.integer.proofs.Sum.{sum-none, added}
-use Rattle.primal.specs.Padded.{padded}
-use Rattle.primal.proofs.ProductSizes.{dotted}
+use Rattle.integer.proofs.Sizes.{called}
+use Rattle.integer.proofs.Sum.{sum_cong}
 use Rattle.dual.proofs.FloorSizes.{drift_at, size_drift_at}
 use Rattle.dual.proofs.floor.drifts.Goals as goal
-use Rattle.dual.proofs.floor.drifts.Tie as tie
-use Rattle.dual.proofs.floor.drifts.Reads as reads
-use Rattle.dual.proofs.floor.drifts.Lts as lts
 
-pub loop-k-init : goal.loop-k-init
-loop-k-init c = (omega arith, sym (sum-none _))
+-- what `dot` says of a step, with its places counted from 0
+step : (drift y : List ℤ) (k : ℕ) {r : ℤ} → r ≡ sum 6 (λ q. at y (6 * k + q) *ℤ at drift (0 + 1 * q)) → r ≡ drift_at drift y k
+step drift y k e = e ∙ sum_cong 6 _ _ (λ q _. ap (λ (p : ℕ). at y (6 * k + q) *ℤ at drift p) (omega arith))
 
-pub dot-total-requires : goal.dot-total-requires
-dot-total-requires c =
-    let p = c.requires in
-    (omega arith, omega (arith, c.dot-arg-1.given), record { each = λ q h. omega (arith, c.dot-arg-in-loop-k-1.given) }, p.2, p.1)
-
-abbrev turn : goal.After-dot-total → lts.In-loop tie.the-claims reads.Pre reads.Post goal.the-invariant-loop-k goal.the-decreases-loop-k
-turn c = c.before.before.before
-
-next : (c : goal.After-dot-total) →
-    let l = (turn c).loop-k in
-    let a = (turn c).args in
-    Formed (to_z w64 l.total-bits +ℤ back c.dot-total.result) (sum (l.k + 1) (drift_at a.drift.now a.y.now))
-next c =
-    let l = (turn c).loop-k in
-    let a = (turn c).args in
-    let h = (turn c).requires in
-    added l.k _ (λ k _. size_drift_at h.1 h.2 k) (omega arith) l.invariant.1
-    (dotted 6 (padded a.y.now l.k) a.drift.now (λ i. i) c.dot-total.type_inv c.dot-total.ensures (λ i. omega arith))
-
-pub overflow_add-total : goal.overflow_add-total
-overflow_add-total c = (next c).fits
-
-pub loop-k-preserved : goal.loop-k-preserved
-loop-k-preserved c = (omega arith, (next c).is)
+pub total-requires-clause-small : goal.total-requires-clause-small
+total-requires-clause-small c k r l told =
+    let a = c.args in
+    let dotted : r ≡ sum 6 (λ q. at a.y.now (6 * k + q) *ℤ at a.drift.now (0 + 1 * q)) = search rules in
+    rw (step a.drift.now a.y.now k dotted) (omega (arith, size_drift_at c.requires.1 c.requires.2 k))
 
 pub returns : goal.returns
-returns c = let e : c.loop-k.k ≡ c.args.horizon = omega arith in rw e at c.loop-k.invariant.1
+returns c =
+    let a = c.args in
+    called c.total.result c.total.type_inv
+    ∙ c.total.ensures (drift_at a.drift.now a.y.now)
+    (λ k r l told.
+    let dotted : r ≡ sum 6 (λ q. at a.y.now (6 * k + q) *ℤ at a.drift.now (0 + 1 * q)) = search rules in
+    step a.drift.now a.y.now k dotted)

@@ -1,4 +1,4 @@
-use Prim.Native.Nat.{◌+◌, ◌-◌, ◌≤◌}
+use Prim.Native.Nat.{◌+◌}
 use mathlib.Core.Path.{◌≡◌, sym, ◌∙◌}
 use native.Mathlib.Omega.{arith}
 use lib.IntN.{◌+ℤ◌, ◌*ℤ◌}
@@ -15,7 +15,7 @@ use Rattle.dual.proofs.floor.started.Reads as reads
 use Rattle.dual.proofs.floor.started.Lts as lts
 
 pub loop-j-init : goal.loop-j-init
-loop-j-init c = (omega arith, sym (sum-none _))
+loop-j-init c = sym (sum-none _)
 
 abbrev turn : goal.After-total-1 → lts.In-loop tie.the-claims reads.Pre reads.Post goal.the-invariant-loop-j goal.the-decreases-loop-j
 turn c = c.before.before
@@ -41,13 +41,13 @@ next : (c : goal.After-total-1) →
 next c =
     let h = (turn c).requires in
     let l = (turn c).loop-j in
-    added l.j _ (λ j _. size_started_at h.0 h.1 h.2 j) (omega arith) l.invariant.1 (product c).is
+    added l.j _ (λ j _. size_started_at h.0 h.1 h.2 j) (omega arith) l.invariant (product c).is
 
 pub overflow_add-total : goal.overflow_add-total
 overflow_add-total c = (next c).fits
 
 pub loop-j-preserved : goal.loop-j-preserved
-loop-j-preserved c = (omega arith, (next c).is)
+loop-j-preserved c = (next c).is
 
 pub returns : goal.returns
-returns c = let e : c.loop-j.j ≡ 6 = omega arith in rw e at c.loop-j.invariant.1
+returns c = let e : c.loop-j.j ≡ 6 = omega arith in rw e at c.loop-j.invariant

@@ -1,15 +1,11 @@
-use mathlib.Core.Path.{refl}
-use mir.Facts.{to_z-of_z}
+use Rattle.std.proofs.Common.{rules}
 use Rattle.integer.specs.Tests.{outside}
-use Rattle.integer.proofs.Tests.{or_no}
 use Rattle.integer.proofs.number.is_outside.Goals as goal
 
 pub returns-then-v-lo : goal.returns-then-v-lo
 unfolding outside
-returns-then-v-lo c = let f = c.ranges in rw (rw (to_z-of_z f.v, to_z-of_z f.lo) at c.if-v-lo.true)
+returns-then-v-lo c = search rules
 
-pub returns : goal.returns
+pub returns-else-v-lo : goal.returns-else-v-lo
 unfolding outside
-returns c =
-    let f = c.ranges in
-    or_no refl (rw (to_z-of_z f.v, to_z-of_z f.lo) at c.if-v-lo.false) (rw (to_z-of_z f.hi, to_z-of_z f.v))
+returns-else-v-lo c = search rules

@@ -1,9 +1,4 @@
-use Prim.Native.Nat.{ℕ, ◌+◌, ◌*◌, ◌-◌, ◌/◌, ◌<◌, ◌≤◌}
-use mathlib.Core.Path.{◌≡◌}
-use native.Mathlib.Omega.{arith}
-use native.Mathlib.Nat.{mul-le-mul}
-use Rattle.integer.specs.Root.{root_up, LeastRoot}
-use Rattle.integer.proofs.Root.{zero_least, next-least, root_is}
+use Prim.Native.Nat.{◌*◌, ◌-◌, ◌<◌, ◌≤◌}
 use Rattle.integer.proofs.number.root_up.Given as goal
 
 abbrev pub invariant-loop-low : goal.invariant-loop-low

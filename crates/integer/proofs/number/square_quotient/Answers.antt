@@ -13,9 +13,6 @@ use Rattle.integer.proofs.Order.{order}
 use Rattle.integer.proofs.Sizes.{called, size-add, size-mul, fits_by, back, Formed, formed}
 use Rattle.integer.proofs.Quotient.{divides, machine_quotient, size_quotient}
 use Rattle.integer.proofs.Square.{Sized, rest, raised, square_quotient, divisor, size_divisor, size-whole, size-rest, size_both, size_front, size-square, size_less, size_raised, raised_nonneg}
-use Rattle.integer.proofs.number.square_quotient.Reads as reads
-use Rattle.integer.proofs.number.square_quotient.Lts as lts
-use Rattle.integer.proofs.number.quotient.Reads as quotient-reads
 use Rattle.integer.proofs.number.square_quotient.Goals as goal
 
 module _ (c : goal.After-quotient-a) where

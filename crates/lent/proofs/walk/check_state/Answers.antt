@@ -1,46 +1,32 @@
-use mathlib.Core.Path.{◌≡◌, sym, ◌∙◌, ap, ap₂}
-use lib.IntN.{ℤ}
+use mathlib.Core.Path.{◌≡◌, sym, ◌∙◌, ap}
 use mir.Facts.{to_z-of_z}
+use borrow.Author.Rules.{rules}
+use Rattle.std.specs.Prelude.{Err}
 use Rattle.integer.proofs.Sizes.{called, back}
+use Rattle.tape.specs.declared.refusal.Refusal.TheVariants.{OffModel, OverLimit}
 use Rattle.problem.specs.Model.{rounded}
-use Rattle.lent.specs.declared.walk.Check.{Check}
-use Rattle.lent.specs.declared.walk.Test.TheVariants.{Model}
-use Rattle.lent.specs.Checks.{tested, meets, state_check}
+use Rattle.lent.specs.Checks.{refused_as, meets, state_check}
+use Rattle.lent.proofs.Steps.{refused_is}
 use Rattle.lent.proofs.walk.check_state.Goals as goal
-use Rattle.lent.proofs.walk.check_state.Tie as tie
-use Rattle.lent.proofs.walk.check_state.Reads as reads
-use Rattle.lent.proofs.walk.check_state.Lts as lts
+use Rattle.lent.proofs.walk.check_state.Goals.{After-map_err}
 
--- the number that S gives
-expected_is : (c : lts.After-state_of tie.the-claims reads.Pre reads.Post) → back c.state_of-expected.result ≡ rounded c.args.s
-expected_is c = let f = c.state_of-expected in called f.result f.type_inv ∙ f.ensures ∙ ap rounded (to_z-of_z c.ranges.s)
+-- test 10, of the number that S gives
+model_is : (c : After-map_err) → let a = c.args in c.map_err.result ≡ meets a.k a.i a.s a.x
+model_is c =
+    let f = c.state_of-expected in
+    let expected : back f.result ≡ rounded c.args.s = called f.result f.type_inv ∙ f.ensures ∙ ap rounded (to_z-of_z c.ranges.s) in
+    refused_is OffModel c.check_number.result c.map_err.result c.map_err.ensures.cases
+    ∙ ap (refused_as OffModel) (rw (expected, to_z-of_z c.ranges.x) at c.check_number.ensures)
 
--- test 10 of the numbers as they are computed with, which is that of the numbers themselves
-abbrev computed : lts.After-check_number tie.the-claims reads.Pre reads.Post → Check
-computed c =
-    let a = c.args in
-    let e = back c.state_of-expected.result in
-    tested Model a.k a.i e e (back a.x)
-
-computed_is : (c : lts.After-check_number tie.the-claims reads.Pre reads.Post) → let a = c.args in computed c ≡ meets a.k a.i a.s a.x
-computed_is c =
-    let s = c.before.before in
-    ap₂ (λ (e x : ℤ). tested Model s.args.k s.args.i e e x) (expected_is c.before) (to_z-of_z s.ranges.x)
-
-pub returns-in-Passed : goal.returns-in-Passed
+pub returns-in_err-map_err : goal.returns-in_err-map_err
 unfolding state_check
-returns-in-Passed c =
-    let n = c.before.before in
-    let s = n.before.before in
-    let a = s.args in
-    let model : n.check_number-model.result ≡ meets a.k a.i a.s a.x = ◌∙◌ {b = computed n} n.check_number-model.ensures (computed_is n) in
-    rw (sym model ∙ c.in-Passed.is)
-    (rw (to_z-of_z s.ranges.low, to_z-of_z s.ranges.high, to_z-of_z s.ranges.x) at c.check_number.ensures)
+returns-in_err-map_err c =
+    let e : c.from_residual.result ≡ Err c.in_err-map_err.field-0.0 = search rules in
+    rw (sym (model_is (goal.at.returns-in_err-map_err c).After-map_err) ∙ c.in_err-map_err.was) e
 
-pub returns-in-Failed : goal.returns-in-Failed
+pub returns : goal.returns
 unfolding state_check
-returns-in-Failed c =
-    let n = c.before in
-    let a = n.args in
-    let model : n.check_number-model.result ≡ meets a.k a.i a.s a.x = ◌∙◌ {b = computed n} n.check_number-model.ensures (computed_is n) in
-    rw (sym model ∙ c.in-Failed.is)
+returns c =
+    let e = refused_is OverLimit c.check_number-2.result c.map_err-2.result c.map_err-2.ensures.cases in
+    rw (sym (model_is (goal.at.returns c).After-map_err) ∙ c.in_ok-map_err.was)
+    (e ∙ ap (refused_as OverLimit) (rw (to_z-of_z c.ranges.low, to_z-of_z c.ranges.high, to_z-of_z c.ranges.x) at c.check_number-2.ensures))

@@ -1,25 +1,21 @@
-use Prim.Native.Nat.{◌+◌, ◌*◌, ◌-◌, ◌≤◌}
+use Prim.Native.Nat.{◌+◌, ◌*◌}
 use mathlib.Core.Path.{◌≡◌, sym, ◌∙◌}
 use native.Mathlib.Omega.{arith}
-use lib.ListN.{length}
 use lib.IntN.{◌+ℤ◌}
 use mir.Syntax.{w64}
 use mir.Val.{to_z}
-use Rattle.integer.specs.Places.{Steps}
 use Rattle.integer.specs.Sum.{sum}
 use Rattle.integer.proofs.Sizes.{back, Formed}
 use Rattle.integer.proofs.Sum.{sum-none}
 use Rattle.integer.proofs.Places.{stretch_join, steps-none, steps_more}
-use Rattle.dual.specs.Slopes.{by_place}
 use Rattle.dual.proofs.ByPlace.{place_input, place_state}
-use Rattle.lookup.specs.Numbers.{input_number, state_number}
 use Rattle.lookup.proofs.NumberSums.{inputs_cost, states_cost, call_added, size_inputs_cost, size_states_cost}
 use Rattle.lookup.proofs.minimise.minimise.Goals as goal
 
 pub loop-k-init : goal.loop-k-init
 loop-k-init c =
     let e = c.requires.1 in
-    (omega arith, rw e, rw e (steps-none 10 120 _), sym (sum-none _), sym (sum-none _))
+    (rw e, rw e (steps-none 10 120 _), sym (sum-none _), sym (sum-none _))
 
 inputs_next : (c : goal.After-input_numbers-inputs) →
     let l = c.loop-k in
@@ -30,7 +26,7 @@ inputs_next c =
     let a = c.args in
     let h = c.requires in
     let f = c.input_numbers-inputs in
-    call_added 12 _ (size_inputs_cost h.2 a.b.now a.y.now) (omega arith) (omega arith) l.invariant.3 f.type_inv f.ensures.value
+    call_added 12 _ (size_inputs_cost h.2 a.b.now a.y.now) (omega arith) (omega arith) l.invariant.2 f.type_inv f.ensures.value
 
 pub overflow_add-inputs : goal.overflow_add-inputs
 overflow_add-inputs c = (inputs_next c).fits
@@ -44,7 +40,7 @@ states_next c =
     let a = c.args in
     let h = c.requires in
     let f = c.state_numbers-states in
-    call_added 12 _ (size_states_cost h.2 a.horizon a.a.now a.y.now) (omega arith) (omega arith) l.invariant.4 f.type_inv f.ensures.value
+    call_added 12 _ (size_states_cost h.2 a.horizon a.a.now a.y.now) (omega arith) (omega arith) l.invariant.3 f.type_inv f.ensures.value
 
 pub overflow_add-states : goal.overflow_add-states
 overflow_add-states c = (states_next c).fits
@@ -54,9 +50,8 @@ loop-k-preserved c =
     let l = c.loop-k in
     let inputs = c.input_numbers-inputs.ensures.stretch in
     let states = c.state_numbers-states.ensures.stretch in (
-      omega arith,
-      states.same ∙ inputs.same ∙ l.invariant.1,
-      steps_more 10 l.k _ _ _ l.invariant.2
+      states.same ∙ inputs.same ∙ l.invariant.0,
+      steps_more 10 l.k _ _ _ l.invariant.1
           (stretch_join (10 * l.k) 4 6 _ _ _ _ _ _ inputs states (place_input _ _ l.k) (λ i _. place_state _ _ l.k i)),
       (inputs_next c.before.before).is,
       (states_next c).is,
@@ -67,7 +62,7 @@ returns c =
     let l = c.loop-k in
     let e : l.k ≡ c.args.horizon = omega arith in
     record {
-      steps = (rw e at l.invariant.2, l.invariant.1);
-      inputs_value = rw e at l.invariant.3;
-      states_value = rw e at l.invariant.4;
+      steps = (rw e at l.invariant.1, l.invariant.0);
+      inputs_value = rw e at l.invariant.2;
+      states_value = rw e at l.invariant.3;
     }

@@ -1,17 +1,14 @@
-use Prim.Native.Nat.{◌+◌, ◌*◌, ◌-◌, ◌≤◌}
+use Prim.Native.Nat.{◌+◌, ◌*◌}
 use mathlib.Core.Path.{◌≡◌, sym, ◌∙◌}
 use native.Mathlib.Omega.{arith}
 use mir.Syntax.{w64}
 use mir.Val.{to_z}
 use mir.Facts.{to_z-of_z}
 use lib.IntN.{◌+ℤ◌}
-use Rattle.integer.specs.Places.{Stretch}
 use Rattle.integer.specs.Sum.{sum}
 use Rattle.integer.proofs.Sizes.{called, back, element_is, Formed}
 use Rattle.integer.proofs.Sum.{sum-none, added}
 use Rattle.integer.proofs.Places.{stretch_none, stretch_store}
-use Rattle.primal.specs.Padded.{padded}
-use Rattle.steps.specs.Steps.{ascended, gain_correction}
 use Rattle.passes.specs.Sums.{residual_by}
 use Rattle.passes.proofs.SumSizes.{pull_at, size-residual_by, size-pull-at}
 use Rattle.passes.proofs.ascend.ascend_step.Goals as goal
@@ -20,7 +17,7 @@ use Rattle.passes.proofs.ascend.ascend_step.Reads as reads
 use Rattle.passes.proofs.ascend.ascend_step.Lts as lts
 
 pub loop-i-init : goal.loop-i-init
-loop-i-init c = (omega arith, stretch_none _ _ _, sym (sum-none _))
+loop-i-init c = (stretch_none _ _ _, sym (sum-none _))
 
 residual : (c : lts.After-residual_at tie.the-claims reads.Pre reads.Post goal.the-invariant-loop-i goal.the-decreases-loop-i tie.handed_clauses) →
     let a = c.args in
@@ -59,7 +56,7 @@ next c =
     let h = s.requires in
     let f = c.pull_of-total in
     let y-is = element_is h.k_bound.3 (omega arith) (6 * s.args.k + l.i) in
-    added l.i _ (λ i _. size-pull-at h.bounded.0 h.bounded.1 h.bounded.2 h.bounded.3 h.k_bound.3 s.args.k i) (omega arith) l.invariant.2
+    added l.i _ (λ i _. size-pull-at h.bounded.0 h.bounded.1 h.bounded.2 h.bounded.3 h.k_bound.3 s.args.k i) (omega arith) l.invariant.1
     (called f.result f.type_inv ∙ rw (y-is, residual (turn c.before)) at f.ensures)
 
 pub overflow_add-total-in-loop-i : goal.overflow_add-total-in-loop-i
@@ -72,13 +69,13 @@ loop-i-preserved c =
     let f = c.ascended_of in
     let y-is = element_is s.requires.k_bound.3 (omega arith) (6 * s.args.k + l.i) in
     let stored = called f.result f.type_inv ∙ rw (y-is, residual (turn c.before)) at f.ensures in
-    (omega arith, stretch_store _ _ _ _ _ _ (omega arith) l.invariant.1 stored, (next c).is)
+    (stretch_store _ _ _ _ _ _ (omega arith) l.invariant.0 stored, (next c).is)
 
 pub returns : goal.returns
 returns c =
     let l = c.loop-i in
     let e : l.i ≡ 6 = omega arith in
     record {
-      stretch = rw (e, to_z-of_z c.ranges.gain) at l.invariant.1;
-      value = rw e at l.invariant.2;
+      stretch = rw (e, to_z-of_z c.ranges.gain) at l.invariant.0;
+      value = rw e at l.invariant.1;
     }

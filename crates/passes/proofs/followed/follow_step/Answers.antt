@@ -1,11 +1,11 @@
-use Prim.Native.Nat.{◌+◌, ◌*◌, ◌-◌, ◌≤◌}
+use Prim.Native.Nat.{◌+◌, ◌*◌}
 use mathlib.Core.Path.{◌≡◌, refl, sym, ◌∙◌, ap}
-use mathlib.Core.Bool.{false, true≢false}
+use mathlib.Core.Bool.{false}
 use native.Mathlib.Omega.{arith}
 use lib.IntN.{ℤ, ◌+ℤ◌}
 use mir.Syntax.{w64}
 use mir.Val.{to_z}
-use Rattle.integer.specs.Places.{at, Bounded, Stretch}
+use Rattle.integer.specs.Places.{at, Bounded}
 use Rattle.integer.specs.Sum.{sum}
 use Rattle.integer.specs.Tests.{any}
 use Rattle.integer.proofs.Sizes.{called, back, Formed}
@@ -23,15 +23,15 @@ use Rattle.passes.proofs.followed.follow_step.Lts as lts
 
 pub loop-i-init : goal.loop-i-init
 unfolding any
-loop-i-init c = (omega arith, refl, stretch_none _ _ _, sym (sum-none _))
+loop-i-init c = (refl, stretch_none _ _ _, sym (sum-none _))
 
 bounded : (c : goal.In-loop-i) → Bounded most_number c.loop-i.plan
 bounded c =
     let s = c.before.before in
     let a = s.args in
     let l = c.loop-i in
-    step-bounded s.requires.k_bound.4 a.a.now a.forced.now a.start.now a.plan.now a.k s.requires.k_bound.0 l.i (omega arith) l.invariant.1
-    s.requires.k_bound.3 l.invariant.2
+    step-bounded s.requires.k_bound.4 a.a.now a.forced.now a.start.now a.plan.now a.k s.requires.k_bound.0 l.i (omega arith) l.invariant.0
+    s.requires.k_bound.3 l.invariant.1
 
 pub next_state-x-requires : goal.next_state-x-requires
 next_state-x-requires c =
@@ -49,7 +49,7 @@ state_is c =
     let a = c.args in
     let l = c.loop-i in
     let f = c.next_state-x in
-    called f.result f.type_inv ∙ f.ensures ∙ ap rounded (sum_by_kept a.a.now a.forced.now a.start.now a.k l.i l.i l.invariant.2)
+    called f.result f.type_inv ∙ f.ensures ∙ ap rounded (sum_by_kept a.a.now a.forced.now a.start.now a.k l.i l.i l.invariant.1)
 
 abbrev turn : lts.After-is_outside tie.the-claims reads.Pre reads.Post goal.the-invariant-loop-i goal.the-decreases-loop-i tie.handed_clauses → goal.In-loop-i
 turn c = c.before.before.before.before
@@ -74,7 +74,7 @@ returns-then-is_outside c =
     record {
       dropped_value = sym (any_at _ l.i _ (omega arith) (tested c.before ∙ c.if-is_outside.true));
       filled_unless = tt;
-      cost_value = (λ e. absurd (true≢false e), omega arith);
+      cost_value = tt;
     }
 
 pub cost_of-total-requires : goal.cost_of-total-requires
@@ -98,7 +98,7 @@ passed c = c.before.before.before
 none_more : (c : lts.Else1 tie.the-claims reads.Pre reads.Post goal.the-invariant-loop-i goal.the-decreases-loop-i tie.handed_clauses) →
     let a = (turn c.before).args in
     any ((turn c.before).loop-i.i + 1) (is_over a.table.now a.a.now a.forced.now a.start.now a.plan.now a.k) ≡ false
-none_more c = let l = (turn c.before).loop-i in any_more l.i _ l.invariant.1 (tested c.before ∙ c.if-is_outside.false)
+none_more c = let l = (turn c.before).loop-i in any_more l.i _ l.invariant.0 (tested c.before ∙ c.if-is_outside.false)
 
 next : (c : goal.After-cost_of-total) →
     let l = (turn (passed c).before).loop-i in
@@ -115,7 +115,7 @@ next c =
     let f = c.cost_of-total in
     added l.i _
     (λ j h. size-state-cost s.requires.k_bound.4 a.a.now a.forced.now a.start.now a.plan.now a.k s.requires.k_bound.0 j (omega arith)
-    (any_none (l.i + 1) j _ h (none_more (passed c)))) (omega arith) l.invariant.3
+    (any_none (l.i + 1) j _ h (none_more (passed c)))) (omega arith) l.invariant.2
     (called f.result f.type_inv
     ∙ rw (
       called (at a.table.now (7 * p)) c.cost_of-arg-1.given,
@@ -130,7 +130,7 @@ pub loop-i-preserved : goal.loop-i-preserved
 loop-i-preserved c =
     let x = (passed c).before in
     let l = (turn x).loop-i in
-    (omega arith, none_more (passed c), state_store _ l.i (omega arith) l.invariant.2 (state_is x.before.before.before), (next c).is)
+    (none_more (passed c), state_store _ l.i (omega arith) l.invariant.1 (state_is x.before.before.before), (next c).is)
 
 pub returns : goal.returns
 returns c =
@@ -138,13 +138,13 @@ returns c =
     let a = s.args in
     let l = c.loop-i in
     let e : l.i ≡ a.n = omega arith in
-    let total = rw e at l.invariant.3 in
-    let none = rw e at l.invariant.1 in
+    let total = rw e at l.invariant.2 in
+    let none = rw e at l.invariant.0 in
     record {
       dropped_value = sym none;
-      filled_unless = rw e at l.invariant.2;
+      filled_unless = rw e at l.invariant.1;
       cost_value = (
-        λ _. total,
+        total,
         rw total (omega (arith, size_step s.requires.k_bound.4 a.a.now a.forced.now a.start.now a.plan.now a.k s.requires.k_bound.0 a.n s.requires.k_bound.1 none)),
       );
     }

@@ -1,8 +1,8 @@
-use Prim.Native.Nat.{◌+◌, ◌*◌, ◌-◌, ◌≤◌}
+use Prim.Native.Nat.{◌+◌, ◌*◌}
 use mathlib.Core.Path.{◌≡◌}
 use native.Mathlib.Omega.{arith}
 use lib.IntN.{◌+ℤ◌}
-use Rattle.integer.specs.Places.{at, Stretch}
+use Rattle.integer.specs.Places.{at}
 use Rattle.integer.proofs.Sizes.{wider, back, element_is, Formed, formed}
 use Rattle.integer.proofs.Places.{stretch_none, stretch_store}
 use Rattle.primal.specs.Padded.{input_matrix}
@@ -15,7 +15,7 @@ use Rattle.passes.proofs.forced.force_step.Reads as reads
 use Rattle.passes.proofs.forced.force_step.Lts as lts
 
 pub loop-i-init : goal.loop-i-init
-loop-i-init c = (omega arith, stretch_none _ _ _)
+loop-i-init c = stretch_none _ _ _
 
 pub dot-requires : goal.dot-requires
 dot-requires c =
@@ -46,7 +46,7 @@ pub overflow_add-forced : goal.overflow_add-forced
 overflow_add-forced c = (next c).fits
 
 pub loop-i-preserved : goal.loop-i-preserved
-loop-i-preserved c = (omega arith, stretch_store _ _ _ _ _ _ (omega arith) (turn c).loop-i.invariant.1 (next c).is)
+loop-i-preserved c = stretch_store _ _ _ _ _ _ (omega arith) (turn c).loop-i.invariant (next c).is
 
 pub returns : goal.returns
-returns c = let e : c.loop-i.i ≡ 6 = omega arith in rw e at c.loop-i.invariant.1
+returns c = let e : c.loop-i.i ≡ 6 = omega arith in rw e at c.loop-i.invariant

@@ -1,27 +1,22 @@
+use native.Mathlib.Omega.{arith}
 use Rattle.tape.specs.Reading.{reading}
-use Rattle.ranges.specs.Ranges.{ranges_of}
-use Rattle.planner.proofs.Ranged.{small_ranging, ranges_promise}
+use Rattle.planner.specs.Ranges.{ends_of}
+use Rattle.planner.proofs.Answered.{small_mapped, answered}
+use Rattle.planner.proofs.Ranged.{small_ranging, bounding_by}
 use Rattle.planner.proofs.ends.fibergravel_ranges.Goals as goal
 
-pub code-requires : goal.code-requires
-code-requires c =
-    let a = c.args in
-    rw (rw c.judge_ranges-answer.ensures.value at c.in-Refused.is) at (small_ranging a.tape.now a.plan.now a.multipliers.now)
+pub answer-requires : goal.answer-requires
+answer-requires c =
+    let a = c.args in (
+      omega arith,
+      small_mapped _ c.judge_ranges.result c.map.result c.map.ensures.cases
+          (rw c.judge_ranges.ensures.value (small_ranging a.tape.now a.plan.now a.multipliers.now)),
+    )
 
-pub returns-in-Ranges : goal.returns-in-Ranges
-returns-in-Ranges c =
+pub returns-clause-bounding_by : goal.returns-clause-bounding_by
+returns-clause-bounding_by c =
     let a = c.args in
-    let h = c.judge_ranges-answer.ensures in
-    let e = rw h.value at c.in-Ranges.is in
-    let p = ranges_promise (ranges_of a.tape.now a.plan.now a.multipliers.now) (reading a.tape.now).tape a.plan.now a.multipliers.now a.out.now
-    {number = 0} {out = c.ends.result} (h.value, h.bounding) (rw e) (rw e c.ends.ensures) in
-    record { value = p.0; out_after = p.1.0; bounding_by = p.1.1 }
-
-pub returns-in-Refused : goal.returns-in-Refused
-returns-in-Refused c =
-    let a = c.args in
-    let h = c.judge_ranges-answer.ensures in
-    let e = rw h.value at c.in-Refused.is in
-    let p = ranges_promise (ranges_of a.tape.now a.plan.now a.multipliers.now) (reading a.tape.now).tape a.plan.now a.multipliers.now a.out.now
-    {number = c.code.result} {out = a.out.now} (h.value, h.bounding) (rw e c.code.ensures) (rw e) in
-    record { value = p.0; out_after = p.1.0; bounding_by = p.1.1 }
+    let n = c.answer in
+    bounding_by c.judge_ranges.result (reading a.tape.now).tape a.plan.now a.multipliers.now n.result n.new.out a.out.now
+    (answered _ c.judge_ranges.result c.map.result c.map.ensures.cases ends_of n.result n.new.out a.out.now (λ ranges out is made. made) n.ensures.value n.ensures.out_after)
+    c.judge_ranges.ensures.bounding

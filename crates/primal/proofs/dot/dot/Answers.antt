@@ -1,9 +1,8 @@
-use Prim.Native.Nat.{ℕ, ◌≤◌, ◌<◌, ◌+◌, ◌-◌, ◌*◌}
+use Prim.Native.Nat.{◌<◌, ◌+◌, ◌*◌}
 use mathlib.Core.Path.{◌≡◌, sym}
-use mathlib.Core.List.{List}
 use native.Mathlib.Omega.{arith}
 use lib.ListN.{length}
-use lib.IntN.{ℤ, ◌+ℤ◌, ◌*ℤ◌}
+use lib.IntN.{◌+ℤ◌, ◌*ℤ◌}
 use mir.Syntax.{w64}
 use mir.Val.{to_z}
 use Rattle.integer.specs.Places.{at}
@@ -17,7 +16,7 @@ use Rattle.primal.proofs.dot.dot.Reads as reads
 use Rattle.primal.proofs.dot.dot.Lts as lts
 
 pub loop-q-init : goal.loop-q-init
-loop-q-init c = (omega arith, sym (sum-none _))
+loop-q-init c = sym (sum-none _)
 
 reach : (c : goal.After-total-1) →
     let s = c.before.before.before in s.args.j + s.args.stride * c.loop-q.q < length s.args.y.now
@@ -57,7 +56,7 @@ next : (c : goal.After-total-in-loop-q-1) →
 next c =
     let l = (turn c).loop-q in
     let h = (turn c).requires in
-    added l.q _ (λ q _. size_product_at h.3 h.4 _ _) (omega arith) l.invariant.1 (product c).is
+    added l.q _ (λ q _. size_product_at h.3 h.4 _ _) (omega arith) l.invariant (product c).is
 
 pub overflow_mul-total-in-loop-q : goal.overflow_mul-total-in-loop-q
 overflow_mul-total-in-loop-q c = (product c).fits
@@ -66,7 +65,7 @@ pub overflow_add-total-in-loop-q-2 : goal.overflow_add-total-in-loop-q-2
 overflow_add-total-in-loop-q-2 c = (next c).fits
 
 pub loop-q-preserved : goal.loop-q-preserved
-loop-q-preserved c = (omega arith, (next c).is)
+loop-q-preserved c = (next c).is
 
 pub returns : goal.returns
-returns c = let e : c.loop-q.q ≡ c.args.count = omega arith in rw e at c.loop-q.invariant.1
+returns c = let e : c.loop-q.q ≡ c.args.count = omega arith in rw e at c.loop-q.invariant

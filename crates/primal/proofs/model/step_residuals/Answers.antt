@@ -1,8 +1,7 @@
-use Prim.Native.Nat.{◌+◌, ◌*◌, ◌-◌, ◌≤◌}
+use Prim.Native.Nat.{◌+◌, ◌*◌}
 use mathlib.Core.Path.{◌≡◌}
 use native.Mathlib.Omega.{arith}
 use lib.IntN.{pos, ◌-ℤ◌, ◌*ℤ◌}
-use Rattle.integer.specs.Places.{Stretch}
 use Rattle.integer.proofs.Sizes.{called, back, element_is, Formed, formed}
 use Rattle.integer.proofs.Places.{stretch_none, stretch_store}
 use Rattle.primal.specs.Padded.{padded_plan}
@@ -11,7 +10,7 @@ use Rattle.primal.proofs.ProductSizes.{size_units}
 use Rattle.primal.proofs.model.step_residuals.Goals as goal
 
 pub loop-i-init : goal.loop-i-init
-loop-i-init c = (omega arith, stretch_none _ _ _)
+loop-i-init c = stretch_none _ _ _
 
 scaled : (c : goal.After-e-1) →
     let a = c.args in
@@ -41,7 +40,7 @@ pub overflow_sub-e : goal.overflow_sub-e
 overflow_sub-e c = (residual c).fits
 
 pub loop-i-preserved : goal.loop-i-preserved
-loop-i-preserved c = (omega arith, stretch_store _ _ _ _ _ _ (omega arith) c.loop-i.invariant.1 (residual c).is)
+loop-i-preserved c = stretch_store _ _ _ _ _ _ (omega arith) c.loop-i.invariant (residual c).is
 
 pub returns : goal.returns
-returns c = let e : c.loop-i.i ≡ 6 = omega arith in rw e at c.loop-i.invariant.1
+returns c = let e : c.loop-i.i ≡ 6 = omega arith in rw e at c.loop-i.invariant

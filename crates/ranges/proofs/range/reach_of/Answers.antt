@@ -1,7 +1,7 @@
 use mathlib.Core.Path.{◌≡◌, ap}
 use native.Mathlib.Omega.{arith}
 use native.Mathlib.Nat.{le_refl}
-use lib.IntN.{ℤ, pos, nat_abs, ◌*ℤ◌}
+use lib.IntN.{pos, nat_abs, ◌*ℤ◌}
 use mir.Facts.{to_z-of_z}
 use Rattle.integer.specs.Root.{root_up}
 use Rattle.integer.proofs.Parts.{times}

@@ -7,12 +7,12 @@ use lib.Seq.{length-take-le}
 use lib.IntN.{ℤ}
 use mir.Facts.{to_z-of_z}
 use borrow.Rule.Slice.PartMut.{put_mid}
-use Rattle.integer.proofs.Filled.{Filled, filled_none, filled_part, next_part, filled_end}
+use Rattle.integer.proofs.Filled.{Filled, filled_none, filled_part, next_part}
 use Rattle.integer.proofs.Places.{take-bounded}
 use Rattle.integer.proofs.Sizes.{wider}
 use Rattle.records.specs.declared.Sizes.{Sizes}
 use Rattle.records.specs.Readers.{plan_count, service_length, number_bytes, laboratory_bytes, sized, Proved}
-use Rattle.records.proofs.Bytes.{number_bytes_length, sized-length, service_split, duties_room, proved-length}
+use Rattle.records.proofs.Bytes.{last_part, filled_last, number_bytes_length, sized-length, service_split, duties_room, proved-length}
 use Rattle.records.proofs.write.write_proved.Goals as goal
 
 -- the plan has its first duties
@@ -67,7 +67,7 @@ write_numbers-requires-2 c =
     let q = length a.multipliers.now in
     let l = rw (to_z-of_z c.ranges.gap) at c.write_laboratory.ensures in
     let s = after_plan z a.rounds a.gap a.plan.now _ a.service.now _ o.0 f.sizes.inputs o.3.long l c.requires.1 c.write_sized.ensures _ c.write_numbers.ensures in (
-      next_part (19 + 4 * p) (19 + 4 * p + 4 * q) (4 * q) refl (omega (arith, service_split z, o.3.long, o.4.long)) s,
+      last_part (19 + 4 * p) (4 * q) (omega (arith, service_split z, o.3.long, o.4.long)) s,
       refl,
       omega arith,
       wider o.4.within (omega arith),
@@ -85,8 +85,7 @@ returns c =
     let l = rw (to_z-of_z c.ranges.gap) at c.write_laboratory.ensures in
     let s = after_plan z a.rounds a.gap a.plan.now _ a.service.now _ o.0 f.sizes.inputs o.3.long l c.requires.1 c.write_sized.ensures _ c.write_numbers.ensures in
     let e : 19 + 4 * p + 4 * q ≡ service_length z = omega (arith, service_split z, o.3.long, o.4.long) in
-    let g = filled_part (19 + 4 * p) (19 + 4 * p + 4 * q) (4 * q) (number_bytes 4 y) refl (omega arith) (number_bytes_length 4 y) s c.write_numbers-2.ensures in
     record {
       laboratory_after = l;
-      service_after = filled_end e g;
+      service_after = filled_last (19 + 4 * p) (4 * q) e s (number_bytes 4 y) (number_bytes_length 4 y) c.write_numbers-2.ensures;
     }

@@ -2,10 +2,9 @@ use Prim.Native.Nat.{ℕ, ◌+◌, ◌*◌}
 use mathlib.Core.Path.{refl, ap, ◌∙◌}
 use mathlib.Core.List.{List}
 use native.Mathlib.Omega.{arith}
-use lib.ListN.{length}
-use Rattle.integer.proofs.Filled.{filled_none, filled_part, filled_end}
+use Rattle.integer.proofs.Filled.{filled_none, filled_part}
 use Rattle.records.specs.Readers.{unproved, plan_count, sized}
-use Rattle.records.proofs.Bytes.{filled_absent, unproved-length, sized-length}
+use Rattle.records.proofs.Bytes.{last_absent, unproved-length, sized-length}
 use Rattle.records.proofs.write.write_without_plan.Goals as goal
 
 pub returns : goal.returns
@@ -19,5 +18,5 @@ returns c =
     (c.write_sized.ensures ∙ ap (λ (b : List ℕ). sized b z) c.write_unproved.ensures) in
     record {
       laboratory_after = c.write_unproved.ensures;
-      front_after = filled_end e (filled_absent 19 (length a.front.now) (4 * p) (omega arith) (omega arith) f c.fill.ensures);
+      front_after = last_absent 19 (4 * p) refl f (c.fill.ensures.after (λ y e. e));
     }

@@ -1,21 +1,11 @@
-use mir.Facts.{to_z-of_z}
+use Rattle.std.proofs.Common.{rules}
 use Rattle.rounds.specs.Held.{may_answer}
 use Rattle.rounds.proofs.verdict.may_answer.Goals as goal
 
 pub returns-then-highest-upper : goal.returns-then-highest-upper
 unfolding may_answer
-returns-then-highest-upper c =
-    let f = c.ranges in
-    rw (rw (to_z-of_z f.highest, to_z-of_z f.upper) at c.if-highest-upper.true)
+returns-then-highest-upper c = search rules
 
-pub returns-then-dropped : goal.returns-then-dropped
+pub returns-else-highest-upper : goal.returns-else-highest-upper
 unfolding may_answer
-returns-then-dropped c =
-    let f = c.ranges in
-    rw (rw (to_z-of_z f.highest, to_z-of_z f.upper) at c.if-highest-upper.false, c.if-dropped.true)
-
-pub returns : goal.returns
-unfolding may_answer
-returns c =
-    let f = c.ranges in
-    rw (rw (to_z-of_z f.highest, to_z-of_z f.upper) at c.if-highest-upper.false, c.if-dropped.false, to_z-of_z f.gap, to_z-of_z f.wanted)
+returns-else-highest-upper c = search rules

@@ -1,95 +1,126 @@
-use Prim.Native.Nat.{ℕ, ◌+◌, ◌-◌, ◌<◌}
+use Prim.Native.Nat.{ℕ, ◌-◌, ◌<◌}
 use mathlib.Core.Path.{◌≡◌, refl, ap, ◌∙◌}
-use mathlib.Core.Bool.{Bool, true}
 use mathlib.Core.List.{List}
 use native.Mathlib.Omega.{arith}
-use lib.ListN.{set}
-use Rattle.integer.proofs.Sizes.{called}
-use Rattle.commands.specs.declared.Entry.{Entry}
-use Rattle.commands.specs.Format.{bytes_of, place_of}
-use Rattle.commands.specs.Room.{SmallSizes}
-use Rattle.tape.specs.declared.reader.Head.{Head}
-use Rattle.tape.specs.declared.reader.Step.{Step}
-use Rattle.tape.specs.declared.reader.Step.TheVariants.{Stored}
-use Rattle.tape.specs.Tape.{with}
-use Rattle.tape.specs.Reading.{next, outcome, read_from, reading}
-use Rattle.tape.specs.Parts.{Arrays, arrays_by, arrays_of, head_of, tape_by, reader_by, after, Obeys}
+use borrow.Author.Rules.{rules}
+use borrow.Author.Tests.{lt-ltb}
+use lib.ListN.{length}
+use Rattle.std.specs.Prelude.{Err}
+use Rattle.commands.specs.declared.Command.{Command}
+use Rattle.commands.specs.Format.{decoded}
+use Rattle.tape.specs.Answer.{told_of}
+use Rattle.tape.specs.Parts.{reader_of}
+use Rattle.tape.specs.Reading.{Reader, Verdict, Going, outcome, obey, next, read_from, reading}
 use Rattle.tape.proofs.Steps.{SmallTape, small_opened, small_next, read_step}
+use Rattle.tape.proofs.Enough.{led_on}
 use Rattle.tape.proofs.reader.read.Goals as goal
 
-module _ (s : List ℕ) (h : Head) (x : Arrays) (given : List Bool) (left : ℕ) {r step : Step} (e : step ≡ r) (told : Obeys (next s) h x.weight given step) where
-  -- where a command leads to
-  obeys : after r (reader_by h x given) ≡ next s (reader_by h x given)
-  obeys = rw (← e) (told.leads x refl)
+-- A command has been obeyed, and has led from the reader q to r.
+module _ (s : List ℕ) (q r : Reader) {c command : Command} (more : q.at < length s) (decode : c ≡ decoded s q.at) (is : c ≡ command) (obeyed : r ≡ obey command s q) where
+  leads : r ≡ next s q
+  unfolding next
+  leads = rw (lt-ltb q.at (length s) more, ← decode, is) obeyed
 
-  small : SmallSizes h.n h.m h.horizon → SmallTape (after r (reader_by h x given)).tape
-  small l = rw obeys (small_next s (reader_by h x given) l)
+  -- where r has ended or is refused, so has the whole tape
+  left : {v : Verdict} → r.verdict ≡ v → read_from s (length s - q.at) q ≡ reading s →
+      outcome v r.tape (read_from s (length s - q.at - 1) r) ≡ reading s
+  left v kept = read_step s (length s - q.at) q r (omega arith) leads v ∙ kept
 
-  -- what the step leads to is still what the whole tape gives
-  on : 0 < left → read_from s left (reader_by h x given) ≡ reading s →
-      let q = after r (reader_by h x given) in outcome q.verdict q.tape (read_from s (left - 1) q) ≡ reading s
-  on more kept = read_step s left (reader_by h x given) (after r (reader_by h x given)) more obeys refl ∙ kept
+  on : r.verdict ≡ Going → (q.at < r.at) × (read_from s (length s - r.at) r ≡ read_from s (length s - q.at) q)
+  on = led_on s q r more leads
 
--- an entry stands in the head, the arrays and the marks
-stored : (h : Head) (x : Arrays) (given : List Bool) (e : Entry) {h' : Head} {x' : Arrays} {given' : List Bool} →
-    h' ≡ head_of (h.at + bytes_of e) (with (tape_by h x) e) → x' ≡ arrays_of (with (tape_by h x) e) → given' ≡ set given (place_of e) true →
-    reader_by h' x' given' ≡ after (Stored e) (reader_by h x given)
-stored h x given e head arrays marks = rw (head, arrays, marks)
+  small : SmallTape q.tape → SmallTape r.tape
+  small l = rw leads (small_next s q l)
 
-pub loop-left-init : goal.loop-left-init
+pub loop-progress-init : goal.loop-progress-init
 unfolding reading
-loop-left-init c = rw c.new-head.ensures (small_opened, refl)
+loop-progress-init c =
+    let e = c.new-progress.ensures in
+    let start : c.new-progress.result.at ≡ 0 = ap (λ (q : Reader). q.at) e in
+    let all : length c.args.tape.now - c.new-progress.result.at ≡ length c.args.tape.now = omega arith in
+    (rw (ap (λ (q : Reader). q.tape) e) small_opened, rw (e, all))
 
-pub with_size-head-requires : goal.with_size-head-requires
-with_size-head-requires c = rw c.in-Sized.is at c.next_step-step.ensures.fitting
+pub returns-in-Unknown : goal.returns-in-Unknown
+unfolding obey
+returns-in-Unknown c =
+    ap told_of (left c.args.tape.now (reader_of Going c.loop-progress.progress) _ c.loop-progress-test.true c.decode.ensures.0 c.in-Unknown.is refl refl c.loop-progress.invariant.1)
 
-pub loop-left-preserved-in-Sized : goal.loop-left-preserved-in-Sized
-loop-left-preserved-in-Sized c =
-    let l = c.loop-left in
-    let x = arrays_by l.a l.b l.drift l.low l.high l.held l.weight l.reference l.curved l.start in
-    let s = c.args.tape.now in
-    let e = c.in-Sized.is in
-    let told = c.next_step-step.ensures in
-    rw (c.with_size-head.ensures x)
-    (small s l.head x l.given l.left e told l.invariant.0, on s l.head x l.given l.left e told c.loop-left-test.true l.invariant.1)
+pub returns-in-Cut : goal.returns-in-Cut
+unfolding obey
+returns-in-Cut c =
+    ap told_of (left c.args.tape.now (reader_of Going c.loop-progress.progress) _ c.loop-progress-test.true c.decode.ensures.0 c.in-Cut.is refl refl c.loop-progress.invariant.1)
 
-pub store-requires : goal.store-requires
-store-requires c = (c.loop-left.invariant.0, (rw c.in-Stored.is at c.next_step-step.ensures.fitting).0)
+pub loop-progress-smaller-in-Continue-1 : goal.loop-progress-smaller-in-Continue-1
+unfolding obey
+loop-progress-smaller-in-Continue-1 c =
+    let l = c.loop-progress.progress in
+    let o = rw c.in_ok-obey_size-in-Size.was at c.obey_size.ensures in
+    let m = on c.args.tape.now (reader_of Going l) (reader_of Going c.obey_size.new.self) c.loop-progress-test.true c.decode.ensures.0 c.in-Size.is o refl in
+    omega (arith, m.0)
 
-pub with_entry-head-requires : goal.with_entry-head-requires
-with_entry-head-requires c = (rw c.in-Stored.is at c.next_step-step.ensures.fitting).1
-
-pub loop-left-preserved : goal.loop-left-preserved
-loop-left-preserved c =
-    let l = c.loop-left in
-    let x = arrays_by l.a l.b l.drift l.low l.high l.held l.weight l.reference l.curved l.start in
-    let s = c.args.tape.now in
-    let e = c.in-Stored.is in
-    let told = c.next_step-step.ensures in
-    let head = c.with_entry-head.ensures x in
-    let kept = c.store.ensures in (
-      rw head (small s l.head x l.given l.left e told l.invariant.0),
-      ap (read_from _ _) (stored l.head x l.given c.in-Stored.entry head kept.start_after kept.given_after)
-          ∙ on s l.head x l.given l.left e told c.loop-left-test.true l.invariant.1,
+pub loop-progress-preserved-in-Continue-1 : goal.loop-progress-preserved-in-Continue-1
+unfolding obey
+loop-progress-preserved-in-Continue-1 c =
+    let l = c.loop-progress in
+    let o = rw c.in_ok-obey_size-in-Size.was at c.obey_size.ensures in
+    let q = reader_of Going l.progress in
+    let r = reader_of Going c.obey_size.new.self in (
+      small c.args.tape.now q r c.loop-progress-test.true c.decode.ensures.0 c.in-Size.is o l.invariant.0,
+      (on c.args.tape.now q r c.loop-progress-test.true c.decode.ensures.0 c.in-Size.is o refl).1 ∙ l.invariant.1,
     )
 
-pub returns-in-Ended : goal.returns-in-Ended
-returns-in-Ended c =
-    let l = c.loop-left in
-    let x = arrays_by l.a l.b l.drift l.low l.high l.held l.weight l.reference l.curved l.start in
-    let h = l.head in
-    let g = c.struct_told-1.given in
-    rw (called h.gain g.1.1.1.1.1.0.1, called h.wanted g.1.1.1.1.1.1.1.0.1)
-    (on c.args.tape.now h x l.given l.left c.in-Ended.is c.next_step-step.ensures c.loop-left-test.true l.invariant.1)
+pub returns-in_err-obey_size-in-Size : goal.returns-in_err-obey_size-in-Size
+unfolding obey
+returns-in_err-obey_size-in-Size c =
+    let l = c.loop-progress in
+    let o = rw c.in_err-obey_size-in-Size.was at c.obey_size.ensures in
+    let e : c.from_residual.result ≡ Err c.in_err-obey_size-in-Size.field-0.0 = search rules in
+    e ∙ ap told_of (left c.args.tape.now (reader_of Going l.progress) _ c.loop-progress-test.true c.decode.ensures.0 c.in-Size.is o refl l.invariant.1)
 
-pub returns-in-Refused : goal.returns-in-Refused
-returns-in-Refused c =
-    let l = c.loop-left in
-    let x = arrays_by l.a l.b l.drift l.low l.high l.held l.weight l.reference l.curved l.start in
-    c.refused_tape.ensures ∙ on c.args.tape.now l.head x l.given l.left c.in-Refused.is c.next_step-step.ensures c.loop-left-test.true l.invariant.1
+pub loop-progress-smaller : goal.loop-progress-smaller
+unfolding obey
+loop-progress-smaller c =
+    let l = c.loop-progress.progress in
+    let o = rw c.in_ok-obey_entry-in-Give.was at c.obey_entry.ensures in
+    let m = on c.args.tape.now (reader_of Going l) (reader_of Going c.obey_entry.new.self) c.loop-progress-test.true c.decode.ensures.0 c.in-Give.is o refl in
+    omega (arith, m.0)
+
+pub loop-progress-preserved : goal.loop-progress-preserved
+unfolding obey
+loop-progress-preserved c =
+    let l = c.loop-progress in
+    let o = rw c.in_ok-obey_entry-in-Give.was at c.obey_entry.ensures in
+    let q = reader_of Going l.progress in
+    let r = reader_of Going c.obey_entry.new.self in (
+      small c.args.tape.now q r c.loop-progress-test.true c.decode.ensures.0 c.in-Give.is o l.invariant.0,
+      (on c.args.tape.now q r c.loop-progress-test.true c.decode.ensures.0 c.in-Give.is o refl).1 ∙ l.invariant.1,
+    )
+
+pub returns-in_err-obey_entry-in-Give : goal.returns-in_err-obey_entry-in-Give
+unfolding obey
+returns-in_err-obey_entry-in-Give c =
+    let l = c.loop-progress in
+    let o = rw c.in_err-obey_entry-in-Give.was at c.obey_entry.ensures in
+    let e : c.from_residual-in_err-obey_entry-in-Give.result ≡ Err c.in_err-obey_entry-in-Give.field-0.0 = search rules in
+    e ∙ ap told_of (left c.args.tape.now (reader_of Going l.progress) _ c.loop-progress-test.true c.decode.ensures.0 c.in-Give.is o refl l.invariant.1)
+
+pub returns-in_err-check_end-in-End : goal.returns-in_err-check_end-in-End
+unfolding obey
+returns-in_err-check_end-in-End c =
+    let l = c.loop-progress in
+    let o = rw c.in_err-check_end-in-End.was at c.check_end.ensures in
+    let e : c.from_residual-in_err-check_end-in-End.result ≡ Err c.in_err-check_end-in-End.field-0.0 = search rules in
+    e ∙ ap told_of (left c.args.tape.now (reader_of Going l.progress) _ c.loop-progress-test.true c.decode.ensures.0 c.in-End.is o refl l.invariant.1)
+
+pub returns-in-End : goal.returns-in-End
+unfolding obey
+returns-in-End c =
+    let l = c.loop-progress in
+    let o = rw c.in_ok-check_end-in-End.was at c.check_end.ensures in
+    ap told_of (left c.args.tape.now (reader_of Going l.progress) _ c.loop-progress-test.true c.decode.ensures.0 c.in-End.is o refl l.invariant.1)
 
 pub returns : goal.returns
 unfolding read_from
 returns c =
-    let z : c.loop-left.left ≡ 0 = omega arith in
-    c.refused_tape-2.ensures ∙ rw z at c.loop-left.invariant.1
+    let none : length c.args.tape.now - c.loop-progress.progress.at ≡ 0 = omega arith in
+    ap told_of (rw none at c.loop-progress.invariant.1)

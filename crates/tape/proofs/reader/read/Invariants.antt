@@ -1,14 +1,14 @@
+use Prim.Native.Nat.{◌-◌}
 use mathlib.Core.Path.{◌≡◌}
-use Rattle.commands.specs.Room.{SmallSizes}
-use Rattle.tape.specs.Reading.{read_from, reading}
-use Rattle.tape.specs.Parts.{arrays_by, reader_by}
+use lib.ListN.{length}
+use Rattle.tape.specs.Reading.{Going, read_from, reading}
+use Rattle.tape.specs.Parts.{reader_of}
+use Rattle.tape.proofs.Steps.{SmallTape}
 use Rattle.tape.proofs.reader.read.Given as goal
 
-abbrev pub invariant-loop-left : goal.invariant-loop-left
-invariant-loop-left l =
-    SmallSizes l.head.n l.head.m l.head.horizon
-    × (read_from l.tape l.left (reader_by l.head (arrays_by l.a l.b l.drift l.low l.high l.held l.weight l.reference l.curved l.start) l.given) ≡ reading l.tape)
+abbrev pub invariant-loop-progress : goal.invariant-loop-progress
+invariant-loop-progress l =
+    SmallTape l.progress.tape × (read_from l.tape (length l.tape - l.progress.at) (reader_of Going l.progress) ≡ reading l.tape)
 
-abbrev pub decreases-loop-left : goal.decreases-loop-left
-decreases-loop-left l =
-    l.left
+abbrev pub decreases-loop-progress : goal.decreases-loop-progress
+decreases-loop-progress l = length l.tape - l.progress.at

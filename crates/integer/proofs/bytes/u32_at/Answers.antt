@@ -1,8 +1,0 @@
-use Rattle.integer.proofs.Operand.{unsigned-at, bytes_of}
-use Rattle.integer.proofs.bytes.u32_at.Goals as goal
-
-pub returns : goal.returns
-returns c =
-    let s = c.before.before.before in
-    unsigned-at 2 2 s.args.s.now s.args.at (bytes_of c.shared_slice_known-1.given) s.requires
-    c.u16_at-low.ensures.0 c.u16_at-high.ensures.0

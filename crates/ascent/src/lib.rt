@@ -17,14 +17,14 @@ use banded::solve::correction_of;
 use tape::Tape;
 
 // From the tape's eliminated rows.
-pub fn ascend_by_band(t: Tape, rows: &[Row; 72], ahead: [i64; 72], e: [i64; 72]) -> [i64; 72]
-    requires { Legal t × (uses_band t ≡ true) × TapeRows t rows.now × HeldStep t ahead e }
-    ensures { Ascended t ahead e result }
+pub fn ascend_by_band(t: &Tape, rows: &[Row; 72], ahead: &[i64; 72], e: &[i64; 72]) -> [i64; 72]
+    requires { Legal t.now × (uses_band t.now ≡ true) × TapeRows t.now rows.now × HeldStep t.now ahead.now e.now }
+    ensures { Ascended t.now ahead.now e.now result }
 {
     let n = t.n;
     let horizon = t.horizon;
     let count = row_count(n, horizon);
-    let sides = right_sides(&e, n, count);
+    let sides = right_sides(e, n, count);
     let d = correction_of(rows, &sides, count, 2 * n - 1);
-    multipliers_by_rows(&ahead, &d, n, horizon)
+    multipliers_by_rows(ahead, &d, n, horizon)
 }

@@ -15,9 +15,9 @@ use crate::weights::weights_row;
 use tape::Tape;
 
 // A tape's eliminated rows. They do not depend on the residuals.
-pub fn eliminate(t: Tape) -> [Row; 72]
-    requires { Legal t }
-    ensures { TapeRows t result }
+pub fn eliminate(t: &Tape) -> [Row; 72]
+    requires { Legal t.now }
+    ensures { TapeRows t.now result }
 {
     let band = 2 * t.n - 1;
     let mut rows = no_rows();
@@ -41,9 +41,9 @@ pub fn are_usable(rows: &[Row; 72], count: usize) -> bool
 }
 
 // The eliminated rows where the tape is solved by them.
-pub fn factored_of(t: Tape) -> Option<[Row; 72]>
-    requires { Legal t }
-    ensures { Factored t result }
+pub fn factored_of(t: &Tape) -> Option<[Row; 72]>
+    requires { Legal t.now }
+    ensures { Factored t.now result }
 {
     if t.banded {
         let rows = eliminate(t);

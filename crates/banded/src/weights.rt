@@ -99,9 +99,9 @@ fn with_states<'a>(
 }
 
 // W in a row and a column.
-fn weight_of(t: Tape, row: usize, column: usize) -> f64
-    requires { Legal t }
-    ensures { result ≡ weights (problem_of t) row column }
+fn weight_of(t: &Tape, row: usize, column: usize) -> f64
+    requires { Legal t.now }
+    ensures { result ≡ weights (problem_of t.now) row column }
 {
     let n = t.n;
     let m = t.m;
@@ -119,9 +119,9 @@ fn weight_of(t: Tape, row: usize, column: usize) -> f64
 }
 
 // Row `row` of W: slot s is the entry in column row + s − 11.
-pub fn weights_row(t: Tape, row: usize, band: usize) -> [f64; 23]
-    requires { Legal t × (row < 72) × (band ≤ 11) }
-    ensures { Working band (weights (problem_of t)) 0 row result }
+pub fn weights_row(t: &Tape, row: usize, band: usize) -> [f64; 23]
+    requires { Legal t.now × (row < 72) × (band ≤ 11) }
+    ensures { Working band (weights (problem_of t.now)) 0 row result }
 {
     let mut x = [0.0f64; 23];
     let first = first_before(row, band);

@@ -69,7 +69,7 @@ fn correct(
     if is_any_outside(residuals) {
         return Err(Refusal::ArgumentOutOfRange);
     }
-    if let Some(rows) = &factored_of(t) {
+    if let Some(rows) = &factored_of(&t) {
         write_pivots(rows, pivots);
         write_correction(rows, residuals, correction, 2 * t.n - 1);
         return Ok(Corrected::Written);

@@ -9,6 +9,7 @@ use Rattle.integer.specs.Places.{at, Steps}
 use Rattle.integer.specs.Sum.{sum}
 use Rattle.problem.specs.Dual.{input_slope, state_slope, piece, pieces, sizes}
 use Rattle.problem.proofs.Total.{total_cong}
+use Rattle.problem.specs.declared.Term.{Term}
 use Rattle.primal.specs.Padded.{state_matrix, input_matrix, padded, term_at, padded_problem}
 use Rattle.primal.proofs.Places.{sum-steps, total_places}
 use Rattle.dual.specs.Slopes.{by_place}
@@ -30,13 +31,13 @@ abbrev pub slope_at : List ℤ → List ℤ → List ℤ → ℕ → ℕ → ℕ
 slope_at a b y horizon = by_place (input_slope 6 (input_matrix b) (padded y)) (state_slope 6 horizon (state_matrix a) (padded y))
 
 -- the pieces by place, from the slopes by place
-pub pieces_places : (N : ℕ) (a b drift start penalty low high reference y s : List ℤ) →
-    Steps 10 N (slope_at a b y N) s → sum (10 * N) (λ p. piece (term_at penalty low high reference p) (at s p)) ≡ pieces (padded_problem N a b drift start penalty low high reference) (padded y)
+pub pieces_places : (N : ℕ) (a b drift start : List ℤ) (terms : List Term) (y s : List ℤ) →
+    Steps 10 N (slope_at a b y N) s → sum (10 * N) (λ p. piece (term_at terms p) (at s p)) ≡ pieces (padded_problem N a b drift start terms) (padded y)
 unfolding pieces
-pieces_places N a b drift start penalty low high reference y s h =
+pieces_places N a b drift start terms y s h =
     let f = input_slope 6 (input_matrix b) (padded y) in
     let g = state_slope 6 N (state_matrix a) (padded y) in
-    total_places N (λ p. piece (term_at penalty low high reference p) (at s p))
+    total_places N (λ p. piece (term_at terms p) (at s p))
     ∙ total_cong 6 4 N _ _ _ _
-    (λ k j l m. ap (piece (term_at penalty low high reference (10 * k + j))) (h.each k j l (omega arith) ∙ place_input f g k j m))
-    (λ k i l m. ap (piece (term_at penalty low high reference (10 * k + (4 + i)))) (h.each k (4 + i) l (omega arith) ∙ place_state f g k i))
+    (λ k j l m. ap (piece (term_at terms (10 * k + j))) (h.each k j l (omega arith) ∙ place_input f g k j m))
+    (λ k i l m. ap (piece (term_at terms (10 * k + (4 + i)))) (h.each k (4 + i) l (omega arith) ∙ place_state f g k i))

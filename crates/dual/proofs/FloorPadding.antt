@@ -14,6 +14,7 @@ use Rattle.tape.specs.Legal.{Legal}
 use Rattle.problem.specs.Model.{Problem, problem_of}
 use Rattle.problem.specs.Dual.{input_slope, adjoint, carried, state_slope, unweighted, piece, pieces, constant, sizes, floor}
 use Rattle.problem.proofs.Total.{total_cong}
+use Rattle.problem.specs.declared.Term.{Term}
 use Rattle.primal.specs.Terms.{TermsOf}
 use Rattle.primal.proofs.Padding.{sum_products, padded_tape, total-terms}
 
@@ -58,15 +59,15 @@ module _ (t : Tape) (legal : Legal t) (y : ℕ → ℕ → ℤ) (blank : (k i : 
       go true = refl
       go false = refl
 
-module _ (t : Tape) (legal : Legal t) (penalty low high reference : List ℤ) (terms : TermsOf t penalty low high reference) (y : ℕ → ℕ → ℤ)
+module _ (t : Tape) (legal : Legal t) (table : List Term) (terms : TermsOf t table) (y : ℕ → ℕ → ℤ)
     (blank : (k i : ℕ) → t.n ≤ i → i < 6 → y k i ≡ pos 0) where
   abbrev on_places : Problem
-  on_places = padded_tape t penalty low high reference
+  on_places = padded_tape t table
 
   pieces-padded : pieces on_places y ≡ pieces (problem_of t) y
   unfolding pieces unweighted piece
   pieces-padded =
-      total-terms t legal penalty low high reference terms piece _ _ refl (λ k j _. input_slope-none t legal y blank k j) (λ k i _. state_slope-none t legal y blank k i)
+      total-terms t legal table terms piece _ _ refl (λ k j _. input_slope-none t legal y blank k j) (λ k i _. state_slope-none t legal y blank k i)
       ∙ total_cong t.n t.m t.horizon _ _ _ _ (λ k j _ _. ap (piece ((problem_of t).input_term k j)) (input_slope-padded t legal y blank k j))
       (λ k i _ _. ap (piece ((problem_of t).state_term k i)) (state_slope-padded t legal y blank k i))
 

@@ -14,6 +14,7 @@ use Rattle.integer.proofs.Sum.{size-sum}
 use Rattle.commands.specs.Ranges.{most_entry, most_drift, most_number, most_multiplier}
 use Rattle.problem.specs.Model.{Problem}
 use Rattle.problem.specs.Dual.{adjoint, piece, pieces, constant, sizes, floor}
+use Rattle.problem.specs.declared.Term.{Term}
 use Rattle.primal.specs.Padded.{state_matrix, padded, term_at, padded_problem}
 use Rattle.primal.specs.Ranges.{Tables}
 use Rattle.primal.proofs.ProductSizes.{size_products}
@@ -55,7 +56,7 @@ pub size_started_at : {a start y : List ℤ} → Bounded most_entry a → Bounde
 size_started_at {a} {start} {y} ha hs hy j = size-mul (adjoint 6 (state_matrix a) (padded y) 0 j) (at start j) (size-adjoint ha hy 0 j) (hs.each j)
 
 pub size-constant : {a drift start y : List ℤ} (N : ℕ) → N ≤ 12 → Bounded most_entry a → Bounded most_drift drift → Bounded most_number start → Bounded most_multiplier y →
-    nat_abs (constant (padded_problem N a [] drift start [] [] [] []) (padded y)) ≤ most_constant
+    nat_abs (constant (padded_problem N a [] drift start []) (padded y)) ≤ most_constant
 unfolding constant
 size-constant {a} {drift} {start} {y} N l ha hw hs hy =
     le_trans
@@ -68,17 +69,17 @@ pub size-sizes : {y : List ℤ} (count : ℕ) → count ≤ 72 → Bounded most_
 size-sizes count l hy = le_trans (size-sum count most_multiplier _ (λ p _. hy.each p)) (mul-le-mul_right most_multiplier l)
 
 pub size_offset : {a drift start y : List ℤ} (N : ℕ) → N ≤ 12 → Bounded most_entry a → Bounded most_drift drift → Bounded most_number start → Bounded most_multiplier y →
-    nat_abs (constant (padded_problem N a [] drift start [] [] [] []) (padded y) -ℤ pos 2048 *ℤ sizes 6 N (padded y)) ≤ most_offset
+    nat_abs (constant (padded_problem N a [] drift start []) (padded y) -ℤ pos 2048 *ℤ sizes 6 N (padded y)) ≤ most_offset
 size_offset {a} {drift} {start} {y} N l ha hw hs hy =
-    size-sub (constant (padded_problem N a [] drift start [] [] [] []) (padded y)) (pos 2048 *ℤ sizes 6 N (padded y)) (size-constant N l ha hw hs hy)
+    size-sub (constant (padded_problem N a [] drift start []) (padded y)) (pos 2048 *ℤ sizes 6 N (padded y)) (size-constant N l ha hw hs hy)
     (size-mul (pos 2048) (sizes 6 N (padded y)) {B = 72 * most_multiplier} (le_refl 2048) (rw (← sizes_places N y) (size-sizes (6 * N) (omega arith) hy)))
 
 -- ---- The floor
 
-module _ {penalty low high reference a b drift start y : List ℤ} (tables : Tables penalty low high reference) (N : ℕ) (l : N ≤ 12) (ha : Bounded most_entry a)
+module _ {terms : List Term} {a b drift start y : List ℤ} (tables : Tables terms) (N : ℕ) (l : N ≤ 12) (ha : Bounded most_entry a)
     (hb : Bounded most_entry b) (hw : Bounded most_drift drift) (hs : Bounded most_number start) (hy : Bounded most_multiplier y) where
   abbrev q : Problem
-  q = padded_problem N a b drift start penalty low high reference
+  q = padded_problem N a b drift start terms
 
   abbrev rest : ℤ
   rest = constant q (padded y) -ℤ pos 2048 *ℤ sizes 6 N (padded y)
@@ -99,7 +100,7 @@ module _ {penalty low high reference a b drift start y : List ℤ} (tables : Tab
 
   -- the code adds the pieces p, from the slopes s, and the constant less the allowance, o: that is the floor, and it fits
   pub floor_formed : {s : List ℤ} {p o : ℤ} → Steps 10 N (slope_at a b y N) s →
-      mag p < 2 ^ 63 → p ≡ sum (10 * N) (λ c. piece (term_at penalty low high reference c) (at s c)) → mag o < 2 ^ 63 → o ≡ rest →
+      mag p < 2 ^ 63 → p ≡ sum (10 * N) (λ c. piece (term_at terms c) (at s c)) → mag o < 2 ^ 63 → o ≡ rest →
       Formed (back p +ℤ back o) (floor q (padded y))
   floor_formed {s} {p} {o} slopes f e g d =
-      formed (rw (called p f, e, pieces_places N a b drift start penalty low high reference y s slopes, called o g, d) floor-is) size-floor (omega arith)
+      formed (rw (called p f, e, pieces_places N a b drift start terms y s slopes, called o g, d) floor-is) size-floor (omega arith)

@@ -14,7 +14,7 @@ use Rattle.integer.proofs.Sizes.{size_parts, size-add, size-sub, size-mul, back,
 use Rattle.integer.proofs.Quotient.{up_enough, up_least}
 use Rattle.integer.proofs.Tests.{by_test}
 use Rattle.commands.specs.Ranges.{most_number}
-use Rattle.problem.specs.Model.{Term}
+use Rattle.problem.specs.declared.Term.{Term}
 use Rattle.problem.specs.Cost.{cost}
 use Rattle.problem.specs.Dual.{weightless, unweighted, conjugate, tilt, piece}
 use Rattle.problem.proofs.Piece.{conjugate-is, one_limit}

@@ -12,6 +12,7 @@ use crate::slopes::{adjoint_at, slopes};
 use integer::number::size;
 use primal::dot::dot;
 use primal::total::total;
+use problem::Term;
 
 // The sum of y(k,i) w(i) over all k and i.
 fn drifts(drift: &[i64; 6], y: &[i64; 72], horizon: usize) -> i64
@@ -58,7 +59,7 @@ pub fn offset<'a>(
     horizon: usize,
 ) -> i64
     requires { (horizon ≤ 12) × Bounded most_entry a.now × Bounded most_drift drift.now × Bounded most_number start.now × Bounded most_multiplier y.now }
-    ensures { result ≡ constant (padded_problem horizon a.now [] drift.now start.now [] [] [] []) (padded y.now)
+    ensures { result ≡ constant (padded_problem horizon a.now [] drift.now start.now []) (padded y.now)
         -ℤ pos 2048 *ℤ sizes 6 horizon (padded y.now) }
 {
     drifts(drift, y, horizon) + started(a, start, y) - allowance(y, horizon)
@@ -70,18 +71,15 @@ pub fn floor_of<'a>(
     b: &'a [i64; 24],
     drift: &'a [i64; 6],
     start: &'a [i64; 6],
-    penalty: &'a [i64; 120],
-    low: &'a [i64; 120],
-    high: &'a [i64; 120],
-    reference: &'a [i64; 120],
+    terms: &'a [Term; 120],
     y: &'a [i64; 72],
     horizon: usize,
 ) -> i64
     requires horizon_bound { (horizon ≤ 12) × Bounded most_entry a.now × Bounded most_entry b.now × Bounded most_drift drift.now × Bounded most_number start.now }
-    requires tables { Tables penalty.now low.now high.now reference.now × Bounded most_multiplier y.now }
+    requires tables { Tables terms.now × Bounded most_multiplier y.now }
     ensures { result ≡ floor (padded_problem horizon a.now b.now drift.now start.now
-        penalty.now low.now high.now reference.now) (padded y.now) }
+        terms.now) (padded y.now) }
 {
     let s = slopes(a, b, y, horizon);
-    pieces(penalty, low, high, reference, &s, horizon) + offset(a, drift, start, y, horizon)
+    pieces(terms, &s, horizon) + offset(a, drift, start, y, horizon)
 }

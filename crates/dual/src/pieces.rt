@@ -4,13 +4,14 @@ ghost use Rattle.integer.specs.Places.{at, Bounded};
 ghost use Rattle.integer.specs.Sum.{sum};
 ghost use Rattle.commands.specs.Ranges.{most_number};
 ghost use Rattle.problem.specs.Dual.{unweighted, piece};
-ghost use Rattle.primal.specs.Padded.{term_at, term_of};
+ghost use Rattle.primal.specs.Padded.{term_at};
 ghost use Rattle.primal.specs.Ranges.{most_penalty, Ranged, Tables};
 ghost use Rattle.dual.specs.Slopes.{most_slope};
 
 use integer::number::square_quotient;
 use primal::cost::cost_of;
 use primal::total::total;
+use problem::Term;
 
 // 2P (v - r) + s.
 pub fn tilt_at(p: i64, v: i64, r: i64, s: i64) -> i64
@@ -40,36 +41,26 @@ pub fn unweighted_of(low: i64, high: i64, s: i64) -> i64
 
 // The piece of a plan number with slope s. The square is formed, and divided, only where all three
 // tests bound s and P.
-pub fn piece_of(p: i64, low: i64, high: i64, r: i64, s: i64) -> i64
-    requires { Ranged (term_of p low high r) × (nat_abs s ≤ most_slope) }
-    ensures { result ≡ piece (term_of p low high r) s }
+pub fn piece_of(term: Term, s: i64) -> i64
+    requires { Ranged term × (nat_abs s ≤ most_slope) }
+    ensures { result ≡ piece term s }
 {
-    if p <= 0 {
-        return s * unweighted_of(low, high, s);
+    if term.penalty <= 0 {
+        return s * unweighted_of(term.low, term.high, s);
     }
-    if 0 <= tilt_at(p, low, r, s) {
-        return edge(p, low, r, s);
+    if 0 <= tilt_at(term.penalty, term.low, term.reference, s) {
+        return edge(term.penalty, term.low, term.reference, s);
     }
-    if tilt_at(p, high, r, s) <= 0 {
-        return edge(p, high, r, s);
+    if tilt_at(term.penalty, term.high, term.reference, s) <= 0 {
+        return edge(term.penalty, term.high, term.reference, s);
     }
-    s * r - square_quotient(s, 4 * p)
+    s * term.reference - square_quotient(s, 4 * term.penalty)
 }
 
 // All pieces, from the slopes.
-pub fn pieces<'a>(
-    penalty: &'a [i64; 120],
-    low: &'a [i64; 120],
-    high: &'a [i64; 120],
-    reference: &'a [i64; 120],
-    s: &'a [i64; 120],
-    horizon: usize,
-) -> i64
-    requires { (horizon ≤ 12) × Tables penalty.now low.now high.now reference.now × Bounded most_slope s.now }
-    ensures { result ≡ sum (10 * horizon) (λ p. piece (term_at penalty.now low.now high.now reference.now p) (at s.now p)) }
+pub fn pieces(terms: &[Term; 120], s: &[i64; 120], horizon: usize) -> i64
+    requires { (horizon ≤ 12) × Tables terms.now × Bounded most_slope s.now }
+    ensures { result ≡ sum (10 * horizon) (λ p. piece (term_at terms.now p) (at s.now p)) }
 {
-    total(
-        10 * horizon,
-        |p| piece_of(penalty[p], low[p], high[p], reference[p], s[p]),
-    )
+    total(10 * horizon, |p| piece_of(terms[p], s[p]))
 }

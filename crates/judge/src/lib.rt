@@ -20,7 +20,8 @@ use dual::floor::floor_of;
 use lent::multipliers::{is_any_outside, padded_multipliers};
 use lent::walk::checked_plan;
 use primal::cost::{ceiling_of, plan_cost};
-use primal::terms::{Terms, terms_of};
+use primal::terms::terms_of;
+use problem::Term;
 use tape::refusal::{Refusal, Span};
 use tape::{Tape, read};
 
@@ -30,12 +31,12 @@ pub fn judge_plan(tape: &[u8], plan: &[i32], multipliers: &[i32]) -> Result<i64,
     ensures backed { Backed result (reading tape.now).tape plan.now multipliers.now }
     ensures reasoned { Reasoned result tape.now plan.now multipliers.now }
 {
-    judge_on(read(tape)?, plan, multipliers)
+    judge_on(&read(tape)?, plan, multipliers)
 }
 
-fn judge_on(t: Tape, plan: &[i32], multipliers: &[i32]) -> Result<i64, Refusal>
-    requires { Legal t }
-    ensures { result ≡ judged_on t plan.now multipliers.now }
+fn judge_on(t: &Tape, plan: &[i32], multipliers: &[i32]) -> Result<i64, Refusal>
+    requires { Legal t.now }
+    ensures { result ≡ judged_on t.now plan.now multipliers.now }
 {
     let n = t.n;
     let m = t.m;
@@ -51,25 +52,17 @@ fn judge_on(t: Tape, plan: &[i32], multipliers: &[i32]) -> Result<i64, Refusal>
     }
     let y = padded_multipliers(multipliers, n, horizon);
     let terms = terms_of(t);
-    let v = checked_plan(&t, &terms, plan)?;
-    judge_gap(t, terms, v, y)
+    let v = checked_plan(t, &terms, plan)?;
+    judge_gap(t, &terms, &v, &y)
 }
 
 // The gap of a plan that follows the tape, held against T.
-fn judge_gap(t: Tape, terms: Terms, v: [i64; 120], y: [i64; 72]) -> Result<i64, Refusal>
-    requires legal { Legal t × TermsOf t terms.penalty terms.low terms.high terms.reference }
-    requires bounded { Bounded most_number v × BlankPlan t.n t.m v × Bounded most_multiplier y × BlankMultipliers t.n y }
-    ensures { result ≡ gap_within t (plan_cost (problem_of t) (padded_plan v)) (floor (problem_of t) (padded y)) }
+fn judge_gap(t: &Tape, terms: &[Term; 120], v: &[i64; 120], y: &[i64; 72]) -> Result<i64, Refusal>
+    requires legal { Legal t.now × TermsOf t.now terms.now }
+    requires bounded { Bounded most_number v.now × BlankPlan t.now.n t.now.m v.now × Bounded most_multiplier y.now × BlankMultipliers t.now.n y.now }
+    ensures { result ≡ gap_within t.now (plan_cost (problem_of t.now) (padded_plan v.now)) (floor (problem_of t.now) (padded y.now)) }
 {
-    let horizon = t.horizon;
-    let cost = plan_cost(
-        &terms.penalty,
-        &terms.low,
-        &terms.high,
-        &terms.reference,
-        &v,
-        horizon,
-    );
+    let cost = plan_cost(terms, v, t.horizon);
     let floor = tape_floor(t, terms, y);
     let gap = cost - floor;
     if t.wanted < gap {
@@ -83,24 +76,12 @@ fn judge_gap(t: Tape, terms: Terms, v: [i64; 120], y: [i64; 72]) -> Result<i64, 
 }
 
 // The floor under all plans of a tape.
-fn tape_floor(t: Tape, terms: Terms, y: [i64; 72]) -> i64
-    requires legal { Legal t × TermsOf t terms.penalty terms.low terms.high terms.reference }
-    requires bounded { Bounded most_multiplier y × BlankMultipliers t.n y }
-    ensures { result ≡ floor (problem_of t) (padded y) }
+fn tape_floor(t: &Tape, terms: &[Term; 120], y: &[i64; 72]) -> i64
+    requires legal { Legal t.now × TermsOf t.now terms.now }
+    requires bounded { Bounded most_multiplier y.now × BlankMultipliers t.now.n y.now }
+    ensures { result ≡ floor (problem_of t.now) (padded y.now) }
 {
-    let horizon = t.horizon;
-    floor_of(
-        &t.a,
-        &t.b,
-        &t.drift,
-        &t.start,
-        &terms.penalty,
-        &terms.low,
-        &terms.high,
-        &terms.reference,
-        &y,
-        horizon,
-    )
+    floor_of(&t.a, &t.b, &t.drift, &t.start, terms, y, t.horizon)
 }
 
 // Judges multipliers for impossibility.
@@ -108,12 +89,12 @@ pub fn judge_multipliers(tape: &[u8], multipliers: &[i32]) -> Result<(), Refusal
     ensures value { result ≡ shown tape.now multipliers.now }
     ensures founded { Founded result (reading tape.now).tape }
 {
-    show_on(read(tape)?, multipliers)
+    show_on(&read(tape)?, multipliers)
 }
 
-fn show_on(t: Tape, multipliers: &[i32]) -> Result<(), Refusal>
-    requires { Legal t }
-    ensures { result ≡ shown_on t multipliers.now }
+fn show_on(t: &Tape, multipliers: &[i32]) -> Result<(), Refusal>
+    requires { Legal t.now }
+    ensures { result ≡ shown_on t.now multipliers.now }
 {
     let n = t.n;
     let horizon = t.horizon;
@@ -125,26 +106,19 @@ fn show_on(t: Tape, multipliers: &[i32]) -> Result<(), Refusal>
     }
     let y = padded_multipliers(multipliers, n, horizon);
     let terms = terms_of(t);
-    if is_shown(t, terms, y) {
+    if is_shown(t, &terms, &y) {
         return Ok(());
     }
     Err(Refusal::NotShown)
 }
 
 // Whether the floor exceeds the ceiling.
-fn is_shown(t: Tape, terms: Terms, y: [i64; 72]) -> bool
-    requires legal { Legal t × TermsOf t terms.penalty terms.low terms.high terms.reference }
-    requires bounded { Bounded most_multiplier y × BlankMultipliers t.n y }
-    ensures { result ≡ shows (problem_of t) (padded y) }
+fn is_shown(t: &Tape, terms: &[Term; 120], y: &[i64; 72]) -> bool
+    requires legal { Legal t.now × TermsOf t.now terms.now }
+    requires bounded { Bounded most_multiplier y.now × BlankMultipliers t.now.n y.now }
+    ensures { result ≡ shows (problem_of t.now) (padded y.now) }
 {
-    let horizon = t.horizon;
-    let ceiling = ceiling_of(
-        &terms.penalty,
-        &terms.low,
-        &terms.high,
-        &terms.reference,
-        horizon,
-    );
+    let ceiling = ceiling_of(terms, t.horizon);
     let floor = tape_floor(t, terms, y);
     ceiling < floor
 }

@@ -20,7 +20,9 @@ use Rattle.tape.specs.declared.refusal.Fault.{Fault}
 use Rattle.tape.specs.declared.refusal.Refusal.{Refusal}
 use Rattle.tape.specs.declared.refusal.Refusal.TheVariants.{OverLimit}
 use Rattle.tape.specs.Legal.{Legal}
-use Rattle.problem.specs.Model.{Term, problem_of, plan_of, sum_at}
+use Rattle.problem.specs.declared.Term.{Term}
+use Rattle.problem.specs.Model.{problem_of, plan_of, sum_at}
+use Rattle.primal.specs.Padded.{term_at}
 use Rattle.primal.specs.Terms.{TermsOf}
 use Rattle.primal.specs.Held.{HeldPlan}
 use Rattle.primal.proofs.ModelSizes.{model_at}
@@ -103,46 +105,46 @@ state-size k i S lo hi v l h e = passed-size OverLimit k i lo hi v l h (both_pas
 -- ---- What the two loops of a step test
 
 -- place j of the inputs, and place i of the states, of step k
-abbrev pub input_check_at : List ℤ → List ℤ → List ℤ → ℕ → ℕ → ℕ → ℕ → Result (Unit {0}) Refusal
-input_check_at low high plan from n k j = limits k (n + j) (at low (10 * k + j)) (at high (10 * k + j)) (at plan (from + j))
+abbrev pub input_check_at : List Term → List ℤ → ℕ → ℕ → ℕ → ℕ → Result (Unit {0}) Refusal
+input_check_at terms plan from n k j = let a = term_at terms (10 * k + j) in limits k (n + j) a.low a.high (at plan (from + j))
 
-abbrev pub state_check_at : List ℤ → List ℤ → List ℤ → List ℤ → List ℤ → List ℤ → List ℤ → List ℤ → ℕ → ℕ → ℕ → Result (Unit {0}) Refusal
-state_check_at a b drift start low high plan v from k i =
-    state_check k i (model_at a b drift start v k i) (at low (10 * k + (4 + i))) (at high (10 * k + (4 + i))) (at plan (from + i))
+abbrev pub state_check_at : List ℤ → List ℤ → List ℤ → List ℤ → List Term → List ℤ → List ℤ → ℕ → ℕ → ℕ → Result (Unit {0}) Refusal
+state_check_at a b drift start terms plan v from k i =
+    let term = term_at terms (10 * k + (4 + i)) in state_check k i (model_at a b drift start v k i) term.low term.high (at plan (from + i))
 
 -- all of them, for a tape and a plan l
-abbrev pub inputs_check : Tape → List ℤ → List ℤ → List ℤ → ℕ → Result (Unit {0}) Refusal
-inputs_check t low high l k = first t.m (input_check_at low high l (k * (t.n + t.m)) t.n k)
+abbrev pub inputs_check : Tape → List Term → List ℤ → ℕ → Result (Unit {0}) Refusal
+inputs_check t terms l k = first t.m (input_check_at terms l (k * (t.n + t.m)) t.n k)
 
-abbrev pub states_check : Tape → List ℤ → List ℤ → List ℤ → List ℤ → ℕ → Result (Unit {0}) Refusal
-states_check t low high l w k = first t.n (state_check_at t.a t.b t.drift t.start low high l w (k * (t.n + t.m) + t.m) k)
+abbrev pub states_check : Tape → List Term → List ℤ → List ℤ → ℕ → Result (Unit {0}) Refusal
+states_check t terms l w k = first t.n (state_check_at t.a t.b t.drift t.start terms l w (k * (t.n + t.m) + t.m) k)
 
 -- the tests by the tables are the tape's
-module _ {t : Tape} {penalty low high reference : List ℤ} (legal : Legal t) (terms : TermsOf t penalty low high reference)
+module _ {t : Tape} {table : List Term} (legal : Legal t) (terms : TermsOf t table)
     {k : ℕ} (early : k < 12) (l : List ℤ) where
   inputs_checked : first t.m (λ j. limits k (t.n + j) ((problem_of t).input_term k j).low ((problem_of t).input_term k j).high ((plan_of t.n t.m l).u k j))
-      ≡ inputs_check t low high l k
+      ≡ inputs_check t table l k
   inputs_checked =
       first_cong t.m _ _ (λ j h. ap (λ (a : Term). limits k (t.n + j) a.low a.high ((plan_of t.n t.m l).u k j)) (sym (terms.input k j early h)))
 
-  pub step-failed : {why : Refusal} → inputs_check t low high l k ≡ Err why → step_check (problem_of t) (plan_of t.n t.m l) k ≡ Err why
+  pub step-failed : {why : Refusal} → inputs_check t table l k ≡ Err why → step_check (problem_of t) (plan_of t.n t.m l) k ≡ Err why
   unfolding step_check
   step-failed e = ap₂ or_else (inputs_checked ∙ e) refl
 
   -- once the inputs have passed
-  module _ {v w : List ℤ} (held : HeldPlan t.n t.m k (plan_of t.n t.m l) v) (passed : inputs_check t low high l k ≡ Ok tt)
+  module _ {v w : List ℤ} (held : HeldPlan t.n t.m k (plan_of t.n t.m l) v) (passed : inputs_check t table l k ≡ Ok tt)
       (inputs : Stretch (10 * k) t.m ((plan_of t.n t.m l).u k) v w) where
     pub inputs-bounded : Bounded most_number w
     inputs-bounded =
         stretch_bounded held.bounded
         (λ j h. let p = 10 * k + j in
         let g = terms.tables.each p (omega arith) in
-        passed-size OverLimit k (t.n + j) (at low p) (at high p) ((plan_of t.n t.m l).u k j) g.low g.high (first-each t.m _ passed j h))
+        passed-size OverLimit k (t.n + j) (term_at table p).low (term_at table p).high ((plan_of t.n t.m l).u k j) g.low g.high (first-each t.m _ passed j h))
         inputs
 
     state_checked : (i : ℕ) → i < t.n →
         state_check k i (sum_at (problem_of t) (plan_of t.n t.m l) k i) (at t.low i) (at t.high i) ((plan_of t.n t.m l).x k i)
-        ≡ state_check_at t.a t.b t.drift t.start low high l w (k * (t.n + t.m) + t.m) k i
+        ≡ state_check_at t.a t.b t.drift t.start table l w (k * (t.n + t.m) + t.m) k i
     state_checked i h =
         let e : k * (t.n + t.m) + t.m + i ≡ k * (t.n + t.m) + (t.m + i) = omega arith in
         rw e
@@ -151,11 +153,11 @@ module _ {t : Tape} {penalty low high reference : List ℤ} (legal : Legal t) (t
         (model_padded t legal _ _ i ∙ model_held (legal.states.1, legal.inputs.1) held inputs _ _ _ _ i)
         (terms.state k i early h)))
 
-    pub step-states : step_check (problem_of t) (plan_of t.n t.m l) k ≡ states_check t low high l w k
+    pub step-states : step_check (problem_of t) (plan_of t.n t.m l) k ≡ states_check t table l w k
     unfolding step_check
     step-states = ap₂ or_else (inputs_checked ∙ passed) (first_cong t.n _ _ state_checked)
 
-    pub held_where : (z : List ℤ) (r : Result (Unit {0}) Refusal) → r ≡ states_check t low high l w k →
+    pub held_where : (z : List ℤ) (r : Result (Unit {0}) Refusal) → r ≡ states_check t table l w k →
         OnOk r (Stretch (10 * k + 4) t.n (λ i. at l (k * (t.n + t.m) + t.m + i)) w z) → OnOk r (HeldPlan t.n t.m (k + 1) (plan_of t.n t.m l) z)
     held_where z (Ok tt) e states =
         held_next (legal.states.1, legal.inputs.1) held inputs
@@ -163,6 +165,6 @@ module _ {t : Tape} {penalty low high reference : List ℤ} (legal : Legal t) (t
         (stretch_bounded inputs-bounded
         (λ i h. let p = 10 * k + (4 + i) in
         let g = terms.tables.each p (omega arith) in
-        state-size k i _ (at low p) (at high p) (at l (k * (t.n + t.m) + t.m + i)) g.low g.high (first-each t.n _ (sym e) i h))
+        state-size k i _ (term_at table p).low (term_at table p).high (at l (k * (t.n + t.m) + t.m + i)) g.low g.high (first-each t.n _ (sym e) i h))
         states)
     held_where z (Err why) e states = tt

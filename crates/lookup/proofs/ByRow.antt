@@ -16,7 +16,7 @@ use Rattle.integer.proofs.Sizes.{size_parts, size_product as size-times}
 use Rattle.integer.proofs.Limited.{by_tests}
 use Rattle.integer.proofs.Quotient.{quotient_shift}
 use Rattle.integer.proofs.Tests.{at_most, not_at-most, by_test}
-use Rattle.problem.specs.Model.{Term}
+use Rattle.problem.specs.declared.Term.{Term}
 use Rattle.problem.specs.Dual.{unweighted}
 use Rattle.primal.specs.Ranges.{Ranged}
 use Rattle.steps.specs.Steps.{minimiser}

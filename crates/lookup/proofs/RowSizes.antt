@@ -15,7 +15,7 @@ use Rattle.integer.proofs.Limited.{limited-low, limited-high}
 use Rattle.integer.proofs.Quotient.{size_quotient}
 use Rattle.integer.proofs.Tests.{by_test}
 use Rattle.commands.specs.Ranges.{most_number}
-use Rattle.problem.specs.Model.{Term}
+use Rattle.problem.specs.declared.Term.{Term}
 use Rattle.problem.specs.Dual.{weightless}
 use Rattle.primal.specs.Ranges.{most_penalty, Ranged}
 use Rattle.primal.proofs.TermSizes.{Near}

@@ -7,7 +7,7 @@ use native.Mathlib.Nat.{add-zero}
 use lib.IntN.{ℤ, nat_abs}
 use Rattle.integer.specs.Places.{at, Bounded, Steps}
 use Rattle.integer.proofs.Places.{steps-bounded}
-use Rattle.problem.specs.Model.{Term}
+use Rattle.problem.specs.declared.Term.{Term}
 use Rattle.primal.specs.Padded.{term_at}
 use Rattle.primal.specs.Ranges.{Ranged, Tables}
 use Rattle.lookup.specs.Table.{term_in, centre, span, inverse, row, Whole, Rows, RowsOf}
@@ -36,12 +36,12 @@ row-bounded g =
     (bounded_more (omega arith)
     (bounded_more (omega (arith, size-centre g)) (bounded_more (omega (arith, size-span g)) (bounded_more (size-inverse g) bounded-none))))))
 
-module _ {penalty low high reference : List ℤ} (g : Tables penalty low high reference) (w : (p : ℕ) → p < 120 → Whole (at penalty p)) where
+module _ {terms : List Term} (g : Tables terms) (w : (p : ℕ) → p < 120 → Whole (term_at terms p).penalty) where
   abbrev term : ℕ → Term
-  term = term_at penalty low high reference
+  term = term_at terms
 
   module _ {table : List ℤ} (s : Steps 7 120 (λ p. at (row (term p))) table) where
-    first : (p : ℕ) → p < 120 → at table (7 * p) ≡ at penalty p
+    first : (p : ℕ) → p < 120 → at table (7 * p) ≡ (term p).penalty
     first p h = rw add-zero at (s.each p 0 h (omega arith))
 
     same : (p : ℕ) → p < 120 → term_in table p ≡ term p
@@ -57,5 +57,5 @@ module _ {penalty low high reference : List ℤ} (g : Tables penalty low high re
       bounded = steps-bounded 7 120 (λ p. at (row (term p))) table (omega arith) s (λ p j h l. (row-bounded (g.each p h)).each j);
     }
 
-    pub rows_are : RowsOf penalty low high reference table
+    pub rows_are : RowsOf terms table
     rows_are = record { rows = rows; same = same }

@@ -3,7 +3,7 @@
 use Rattle.std.specs.Prelude.{ℕ, ◌+◌, ◌*◌, ◌<◌, ◌≡◌, cond, List, [], ◌∷◌, ℤ, pos, ◌+ℤ◌, ◌-ℤ◌, ◌*ℤ◌}
 use Rattle.integer.specs.Places.{at, Bounded}
 use Rattle.integer.specs.Quotient.{◌÷◌}
-use Rattle.problem.specs.Model.{Term}
+use Rattle.problem.specs.declared.Term.{Term}
 use Rattle.problem.specs.Dual.{weightless}
 use Rattle.primal.specs.Padded.{term_of, term_at}
 use Rattle.primal.specs.Ranges.{Ranged}
@@ -47,6 +47,6 @@ pub record Rows (table : List ℤ) : Type 0 where
   pub bounded : Bounded 2748779069440000 table
 
 -- and its terms are these
-pub record RowsOf (penalty low high reference table : List ℤ) : Type 0 where
+pub record RowsOf (terms : List Term) (table : List ℤ) : Type 0 where
   pub rows : Rows table
-  pub same : (p : ℕ) → p < 120 → term_in table p ≡ term_at penalty low high reference p
+  pub same : (p : ℕ) → p < 120 → term_in table p ≡ term_at terms p

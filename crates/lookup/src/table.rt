@@ -1,13 +1,14 @@
 // The table of a solve, and the minimiser by it.
 ghost use Rattle.std.specs.Prelude.{ℕ, ◌*◌, ◌<◌, ◌≤◌, ◌≡◌, length, nat_abs};
 ghost use Rattle.integer.specs.Places.{at, Stretch};
-ghost use Rattle.primal.specs.Padded.{term_of};
+ghost use Rattle.primal.specs.Padded.{term_at};
 ghost use Rattle.primal.specs.Ranges.{Ranged, Tables};
 ghost use Rattle.dual.specs.Slopes.{most_slope};
 ghost use Rattle.steps.specs.Steps.{minimiser};
 ghost use Rattle.lookup.specs.Table.{term_in, row, Whole, Rows, RowsOf};
 
 use integer::number::limit;
+use problem::Term;
 
 // The minimiser at place p with slope s.
 pub fn number_at(table: &[i64; 840], p: usize, s: i64) -> i64
@@ -19,29 +20,30 @@ pub fn number_at(table: &[i64; 840], p: usize, s: i64) -> i64
 }
 
 // The row of a term.
-fn row_of(penalty: i64, low: i64, high: i64, reference: i64) -> [i64; 7]
-    requires { Ranged (term_of penalty low high reference) }
-    ensures { result ≡ row (term_of penalty low high reference) }
+fn row_of(term: Term) -> [i64; 7]
+    requires { Ranged term }
+    ensures { result ≡ row term }
 {
-    if penalty <= 0 {
+    let p = term.penalty;
+    if p <= 0 {
         return [
-            penalty,
-            low,
-            high,
-            reference,
+            p,
+            term.low,
+            term.high,
+            term.reference,
             8191,
             8192,
-            68719476736 * (high - low),
+            68719476736 * (term.high - term.low),
         ];
     }
     [
-        penalty,
-        low,
-        high,
-        reference,
-        2 * penalty * (reference - low) + penalty,
-        2 * penalty * (high - low),
-        68719476736 / (penalty / 4096) + 1,
+        p,
+        term.low,
+        term.high,
+        term.reference,
+        2 * p * (term.reference - term.low) + p,
+        2 * p * (term.high - term.low),
+        68719476736 / (p / 4096) + 1,
     ]
 }
 
@@ -56,19 +58,13 @@ fn put_row(table: &mut [i64; 840], row: &[i64; 7], p: usize)
 }
 
 // The rows of all terms.
-pub fn table_of<'a>(
-    penalty: &'a [i64; 120],
-    low: &'a [i64; 120],
-    high: &'a [i64; 120],
-    reference: &'a [i64; 120],
-) -> [i64; 840]
-    requires { Tables penalty.now low.now high.now reference.now × ((p : ℕ) → p < 120 → Whole (at penalty.now p)) }
-    ensures { RowsOf penalty.now low.now high.now reference.now result }
+pub fn table_of(terms: &[Term; 120]) -> [i64; 840]
+    requires { Tables terms.now × ((p : ℕ) → p < 120 → Whole (term_at terms.now p).penalty) }
+    ensures { RowsOf terms.now result }
 {
     let mut table = [0i64; 840];
     for p in 0..120 {
-        let row = row_of(penalty[p], low[p], high[p], reference[p]);
-        put_row(&mut table, &row, p);
+        put_row(&mut table, &row_of(terms[p]), p);
     }
     table
 }

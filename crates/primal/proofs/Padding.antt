@@ -10,11 +10,12 @@ use Rattle.integer.specs.Sum.{sum}
 use Rattle.integer.proofs.Sum.{sum_cong, sum_pad}
 use Rattle.tape.specs.declared.Tape.{Tape}
 use Rattle.tape.specs.Legal.{Legal}
-use Rattle.problem.specs.Model.{Term, Problem, Plan, problem_of, model_sum}
+use Rattle.problem.specs.declared.Term.{Term}
+use Rattle.problem.specs.Model.{Problem, Plan, problem_of, model_sum}
 use Rattle.problem.specs.Cost.{total, cost, plan_cost}
 use Rattle.problem.specs.Dual.{larger, most, ceiling}
-use Rattle.primal.specs.Padded.{state_matrix, input_matrix, padded_problem}
-use Rattle.primal.specs.Terms.{blank_term, TermsOf}
+use Rattle.primal.specs.Padded.{state_matrix, input_matrix, blank_term, padded_problem}
+use Rattle.primal.specs.Terms.{TermsOf}
 
 -- ---- Sums of N numbers, of which those from n on are 0
 
@@ -38,13 +39,13 @@ module _ (t : Tape) (legal : Legal t) where
       (sum_products t.n 6 _ x legal.states.1 (λ j h l. legal.blank_a i j l (inr h)))
       (sum_products t.m 4 _ u legal.inputs.1 (λ j h l. legal.blank_b i j l (inr h)))
 
-abbrev pub padded_tape : Tape → List ℤ → List ℤ → List ℤ → List ℤ → Problem
+abbrev pub padded_tape : Tape → List Term → Problem
 padded_tape t = padded_problem t.horizon t.a t.b t.drift t.start
 
-module _ (t : Tape) (legal : Legal t) (penalty low high reference : List ℤ) (terms : TermsOf t penalty low high reference) where
+module _ (t : Tape) (legal : Legal t) (table : List Term) (terms : TermsOf t table) where
   -- without the model, which costs and the ceiling do not ask for
   abbrev pub padded_terms : Problem
-  padded_terms = padded_problem t.horizon [] [] [] [] penalty low high reference
+  padded_terms = padded_problem t.horizon [] [] [] [] table
 
   -- over a whole plan; for costs, pieces and `most` the first premise holds by computing
   pub total-terms : (f : Term → ℤ → ℤ) (u x : ℕ → ℕ → ℤ) → f blank_term (pos 0) ≡ pos 0 →

@@ -6,7 +6,7 @@ use lib.IntN.{ℤ, nat_abs, ◌-ℤ◌, ◌*ℤ◌}
 use lib.Signed.{le_z}
 use Rattle.integer.proofs.Sizes.{size-sub, size-mul, back, back_is, Formed, formed}
 use Rattle.commands.specs.Ranges.{most_number}
-use Rattle.problem.specs.Model.{Term}
+use Rattle.problem.specs.declared.Term.{Term}
 use Rattle.problem.specs.Dual.{larger, most}
 use Rattle.primal.specs.Ranges.{most_penalty, Ranged}
 

@@ -2,7 +2,7 @@
 use Rattle.std.specs.Prelude.{ℕ, ◌+◌, ◌*◌, ◌<◌, ◌≤◌, List, length, ℤ, pos, nat_abs}
 use Rattle.integer.specs.Order.{◌≼◌}
 use Rattle.commands.specs.Ranges.{most_number, most_entry, most_drift, most_weight}
-use Rattle.problem.specs.Model.{Term}
+use Rattle.problem.specs.declared.Term.{Term}
 use Rattle.primal.specs.Padded.{term_at}
 
 -- P = 4096 h
@@ -29,9 +29,9 @@ pub record Ranged (t : Term) : Type 0 where
   pub reference : nat_abs t.reference ≤ most_number
   pub ordered : t.low ≼ t.high
 
--- Every place of the four tables.
-pub record Tables (penalty low high reference : List ℤ) : Type 0 where
-  pub each : (p : ℕ) → p < 120 → Ranged (term_at penalty low high reference p)
+-- Every place of a plan.
+pub record Tables (terms : List Term) : Type 0 where
+  pub each : (p : ℕ) → p < 120 → Ranged (term_at terms p)
 
 -- A list has the places i, i + stride, .. of count numbers.
 pub record Reaches (l : List ℤ) (i stride count : ℕ) : Type 0 where

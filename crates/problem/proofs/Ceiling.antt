@@ -10,7 +10,7 @@ use Rattle.integer.proofs.Parts.{minus}
 use Rattle.integer.proofs.Ring.{ring, ◌⊕◌, ◌⊖◌, ◌⊗◌, ◌≐◌}
 use Rattle.integer.proofs.Order.{order, le_by, le_trans, le_or_lt, diff_nonneg, add_nonneg, mul_nonneg, mul_nonpos, square_nonneg, mul-le}
 use Rattle.integer.proofs.Tests.{by_test}
-use Rattle.problem.specs.Model.{Term}
+use Rattle.problem.specs.declared.Term.{Term}
 use Rattle.problem.specs.Cost.{square, cost, Within}
 use Rattle.problem.specs.Rival.{finer_term}
 use Rattle.problem.specs.Dual.{larger, most}

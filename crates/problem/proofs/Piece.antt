@@ -12,7 +12,7 @@ use Rattle.integer.proofs.Ring.{ring, K, ◌⊕◌, ◌⊖◌, ◌⊗◌, ◌≐
 use Rattle.integer.proofs.Order.{order, le_by, le_trans, diff_nonneg, diff_nonpos, mul_nonneg, mul_nonpos, square_nonneg, mul_cancel_nonneg}
 use Rattle.integer.proofs.Quotient.{up_enough}
 use Rattle.integer.proofs.Tests.{by_test, not_at-most}
-use Rattle.problem.specs.Model.{Term}
+use Rattle.problem.specs.declared.Term.{Term}
 use Rattle.problem.specs.Cost.{square, cost, Within}
 use Rattle.problem.specs.Rival.{finer_term}
 use Rattle.problem.specs.Dual.{weightless, unweighted, conjugate, tilt, piece}

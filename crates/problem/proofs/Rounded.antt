@@ -16,7 +16,8 @@ use Rattle.integer.proofs.Quotient.{up_down}
 use Rattle.integer.proofs.Sum.{sum_cong, sum-mul}
 use Rattle.tape.specs.declared.Tape.{Tape}
 use Rattle.tape.specs.Legal.{Legal}
-use Rattle.problem.specs.Model.{Term, Problem, problem_of, multipliers_of}
+use Rattle.problem.specs.declared.Term.{Term}
+use Rattle.problem.specs.Model.{Problem, problem_of, multipliers_of}
 use Rattle.problem.specs.Cost.{total, square, cost, cost_of}
 use Rattle.problem.specs.Dual.{input_slope, state_slope, weightless, unweighted, conjugate, tilt, piece, pieces, constant, sizes, floor, floor_of, gap_of}
 use Rattle.problem.proofs.Total.{total-add, total-le}

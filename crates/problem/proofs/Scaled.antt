@@ -1,7 +1,8 @@
 -- A problem with a function of each of its limits, references, drifts and starts: D times each is the problem in units of 1/D.
 use mathlib.Core.Path.{◌≡◌}
 use lib.IntN.{ℤ}
-use Rattle.problem.specs.Model.{Term, Problem}
+use Rattle.problem.specs.declared.Term.{Term}
+use Rattle.problem.specs.Model.{Problem}
 
 abbrev scaled_term : (ℤ → ℤ) → Term → Term
 scaled_term f t = record { penalty = t.penalty; low = f t.low; high = f t.high; reference = f t.reference }

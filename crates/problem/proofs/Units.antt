@@ -12,7 +12,8 @@ use Rattle.integer.specs.Sum.{sum}
 use Rattle.integer.proofs.Ring.{ring, K, ⊝, ◌⊕◌, ◌⊖◌, ◌⊗◌, ◌≐◌}
 use Rattle.integer.proofs.Order.{order, mul-from_one, mul-le}
 use Rattle.integer.proofs.Sum.{sum_cong, sum-mul}
-use Rattle.problem.specs.Model.{Term, Problem, Plan, input_place, state_place, plan_of, state_at, model_sum, residual}
+use Rattle.problem.specs.declared.Term.{Term}
+use Rattle.problem.specs.Model.{Problem, Plan, input_place, state_place, plan_of, state_at, model_sum, residual}
 use Rattle.problem.specs.Cost.{square, cost, plan_cost, Within}
 use Rattle.problem.specs.Rival.{finer_term, finer, Rival, rival_cost}
 use Rattle.problem.proofs.Total.{total_cong, total-mul}

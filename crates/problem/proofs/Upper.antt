@@ -10,7 +10,8 @@ use Rattle.integer.proofs.Parts.{plus, times}
 use Rattle.integer.proofs.Ring.{ring, K, ◌⊕◌, ◌⊖◌, ◌⊗◌, ◌≐◌}
 use Rattle.integer.proofs.Order.{order}
 use Rattle.integer.proofs.Sum.{sum_cong, sum-mul, sum-sub}
-use Rattle.problem.specs.Model.{Term, Problem, Plan, residual}
+use Rattle.problem.specs.declared.Term.{Term}
+use Rattle.problem.specs.Model.{Problem, Plan, residual}
 use Rattle.problem.specs.Cost.{plan_cost, Within}
 use Rattle.problem.specs.Rival.{finer_term}
 use Rattle.problem.specs.Dual.{input_slope, state_slope, sizes, floor}

@@ -3,7 +3,8 @@ use Rattle.std.specs.Prelude.{ℕ, ◌+◌, ◌*◌, ◌<◌, ◌≡◌, List, l
 use Rattle.integer.specs.Order.{◌≼◌}
 use Rattle.integer.specs.Sum.{sum}
 use Rattle.tape.specs.declared.Tape.{Tape}
-use Rattle.problem.specs.Model.{Term, Problem, Plan, problem_of, plan_of, sum_at, rounded}
+use Rattle.problem.specs.declared.Term.{Term}
+use Rattle.problem.specs.Model.{Problem, Plan, problem_of, plan_of, sum_at, rounded}
 
 -- The sum over a plan's numbers: of f k j for u(k,j), and of g k i for x(k+1,i).
 unfoldable pub total : ℕ → ℕ → ℕ → (ℕ → ℕ → ℤ) → (ℕ → ℕ → ℤ) → ℤ

@@ -4,7 +4,8 @@ use Rattle.std.specs.Int.Signed.{le_z, lt_z}
 use Rattle.integer.specs.Quotient.{quotient_up}
 use Rattle.integer.specs.Sum.{sum}
 use Rattle.tape.specs.declared.Tape.{Tape}
-use Rattle.problem.specs.Model.{Term, Problem, problem_of, multipliers_of}
+use Rattle.problem.specs.declared.Term.{Term}
+use Rattle.problem.specs.Model.{Problem, problem_of, multipliers_of}
 use Rattle.problem.specs.Cost.{total, square, cost, cost_of}
 
 -- ---- Slopes

@@ -4,14 +4,8 @@ use Rattle.integer.specs.Places.{at}
 use Rattle.integer.specs.Quotient.{◌÷◌}
 use Rattle.integer.specs.Sum.{sum}
 use Rattle.tape.specs.declared.Tape.{Tape}
+use Rattle.problem.specs.declared.Term.{Term}
 use Rattle.tape.specs.Tape.{reference_at}
-
--- What the limits and the cost say of one plan number: P, lo, hi and r.
-pub record Term : Type 0 where
-  pub penalty : ℤ
-  pub low : ℤ
-  pub high : ℤ
-  pub reference : ℤ
 
 -- n states, m inputs, N steps; A, B, w and x(0); and the terms of u(k,j) and of x(k+1,i), by k and j or i.
 pub record Problem : Type 0 where

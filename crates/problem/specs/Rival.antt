@@ -2,7 +2,8 @@
 -- for a whole D from 1, and stand here as whole numbers V, each for V / D.
 use Rattle.std.specs.Prelude.{ℕ, ◌+◌, ◌*◌, ◌<◌, ◌≡◌, List, length, ℤ, pos, neg_ℤ, ◌*ℤ◌}
 use Rattle.integer.specs.Order.{◌≼◌}
-use Rattle.problem.specs.Model.{Term, Problem, plan_of, residual}
+use Rattle.problem.specs.declared.Term.{Term}
+use Rattle.problem.specs.Model.{Problem, plan_of, residual}
 use Rattle.problem.specs.Cost.{plan_cost, Within}
 
 -- A term, and a problem, in units of 1/D: lo, hi, r, w and x(0) are D times as large. P, A and B stay.

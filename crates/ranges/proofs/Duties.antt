@@ -14,7 +14,8 @@ use Rattle.tape.specs.declared.Tape.{Tape}
 use Rattle.tape.specs.declared.refusal.Refusal.{Refusal}
 use Rattle.tape.specs.Legal.{Legal}
 use Rattle.tape.specs.Reading.{reading}
-use Rattle.problem.specs.Model.{Term, problem_of, plan_of, multipliers_of}
+use Rattle.problem.specs.declared.Term.{Term}
+use Rattle.problem.specs.Model.{problem_of, plan_of, multipliers_of}
 use Rattle.problem.specs.Cost.{cost_of}
 use Rattle.problem.specs.Dual.{input_slope, gap_of}
 use Rattle.problem.proofs.Congruence.{input_slope_cong}
@@ -35,11 +36,11 @@ use Rattle.ranges.proofs.Ends.{range-holds}
 -- ---- Padded places
 
 -- beyond m the term is blank, and its range is 0 to 0
-pub duty-range : (t : Tape) → Legal t → (penalty low high reference : List ℤ) → TermsOf t penalty low high reference →
+pub duty-range : (t : Tape) → Legal t → (table : List Term) → TermsOf t table →
     (y : List ℤ) → BlankMultipliers t.n y → (gap : ℤ) (j : ℕ) → j < 4 →
-    range_of (term_at penalty low high reference j) (input_slope 6 (input_matrix t.b) (padded y) 0 j) gap ≡ duty_range t (padded y) gap j
+    range_of (term_at table j) (input_slope 6 (input_matrix t.b) (padded y) 0 j) gap ≡ duty_range t (padded y) gap j
 unfolding duty_range range_of
-duty-range t legal penalty low high reference terms y blank gap j h =
+duty-range t legal table terms y blank gap j h =
     let e : 0 + j ≡ j = omega arith in
     ⊎_elim
     (λ l. rw (lt-ltb j t.m l)

@@ -9,7 +9,7 @@ use Rattle.integer.proofs.Order.{order}
 use Rattle.integer.proofs.Sizes.{size_parts, size-sub, size-mul}
 use Rattle.integer.proofs.Tests.{by_test}
 use Rattle.commands.specs.Ranges.{most_number, most_wanted}
-use Rattle.problem.specs.Model.{Term}
+use Rattle.problem.specs.declared.Term.{Term}
 use Rattle.problem.specs.Dual.{tilt}
 use Rattle.primal.specs.Ranges.{most_penalty, Ranged}
 use Rattle.dual.specs.Slopes.{most_slope}

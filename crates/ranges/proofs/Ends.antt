@@ -15,7 +15,7 @@ use Rattle.integer.proofs.Root.{root_least}
 use Rattle.integer.proofs.Sizes.{size_parts}
 use Rattle.integer.proofs.Limited.{by_tests}
 use Rattle.integer.proofs.Tests.{by_test, at_most, not_at-most}
-use Rattle.problem.specs.Model.{Term}
+use Rattle.problem.specs.declared.Term.{Term}
 use Rattle.problem.specs.Cost.{square}
 use Rattle.problem.specs.Dual.{weightless, tilt}
 use Rattle.ranges.specs.declared.range.Range.{Range}

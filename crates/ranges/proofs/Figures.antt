@@ -10,7 +10,7 @@ use Rattle.integer.specs.Limited.{limited}
 use Rattle.integer.specs.Quotient.{◌÷◌, quotient_up}
 use Rattle.integer.specs.Root.{LeastRoot}
 use Rattle.integer.proofs.Root.{zero_least, next-least, root_is}
-use Rattle.problem.specs.Model.{Term}
+use Rattle.problem.specs.declared.Term.{Term}
 use Rattle.problem.specs.Dual.{weightless, tilt}
 use Rattle.ranges.specs.declared.range.Range.{Range}
 use Rattle.ranges.specs.Range.{centre, reach, lowest, highest, range_of}

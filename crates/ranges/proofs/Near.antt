@@ -8,7 +8,8 @@ use Rattle.integer.proofs.Parts.{minus, times}
 use Rattle.integer.proofs.Ring.{ring, K, ◌⊖◌, ◌⊗◌, ◌≐◌}
 use Rattle.integer.proofs.Order.{order, le_trans, diff_nonneg, diff_nonpos, mul_nonneg, mul_nonpos, mul-le}
 use Rattle.integer.proofs.Tests.{at_most, not_at-most}
-use Rattle.problem.specs.Model.{Term, Problem, Plan, plan_of}
+use Rattle.problem.specs.declared.Term.{Term}
+use Rattle.problem.specs.Model.{Problem, Plan, plan_of}
 use Rattle.problem.specs.Cost.{square, cost, Within}
 use Rattle.problem.specs.Rival.{finer_term, Rival, rival_cost}
 use Rattle.problem.specs.Dual.{conjugate, tilt, piece, floor}

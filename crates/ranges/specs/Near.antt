@@ -1,7 +1,8 @@
 -- Document 02, request 8: how near the numbers of a rival are that costs no more than an accepted plan.
 use Rattle.std.specs.Prelude.{ℕ, ◌<◌, ℤ, pos, ◌+ℤ◌, ◌-ℤ◌, ◌*ℤ◌}
 use Rattle.integer.specs.Order.{◌≼◌, ◌≺◌}
-use Rattle.problem.specs.Model.{Term, Problem, Plan}
+use Rattle.problem.specs.declared.Term.{Term}
+use Rattle.problem.specs.Model.{Problem, Plan}
 use Rattle.problem.specs.Cost.{square}
 use Rattle.problem.specs.Dual.{input_slope, tilt, state_slope}
 

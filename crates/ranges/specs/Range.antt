@@ -4,7 +4,7 @@ use Rattle.integer.specs.Order.{◌≼◌, ◌≺◌}
 use Rattle.integer.specs.Limited.{limited}
 use Rattle.integer.specs.Quotient.{◌÷◌, quotient_up}
 use Rattle.integer.specs.Root.{root_up}
-use Rattle.problem.specs.Model.{Term}
+use Rattle.problem.specs.declared.Term.{Term}
 use Rattle.problem.specs.Cost.{Within}
 use Rattle.problem.specs.Rival.{finer_term}
 use Rattle.problem.specs.Dual.{weightless, by_piece}

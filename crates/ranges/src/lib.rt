@@ -19,7 +19,8 @@ use crate::range::{Range, range_of};
 use dual::slopes::input_slope_at;
 use judge::judge_plan;
 use lent::multipliers::padded_multipliers;
-use primal::terms::{Terms, terms_of};
+use primal::terms::terms_of;
+use problem::Term;
 use tape::refusal::Refusal;
 use tape::{Tape, read};
 
@@ -39,38 +40,32 @@ pub fn judge_ranges(tape: &[u8], plan: &[i32], multipliers: &[i32]) -> Result<Ra
 {
     let t = read(tape)?;
     let gap = judge_plan(tape, plan, multipliers)?;
-    Ok(first_ranges(t, multipliers, gap))
+    Ok(first_ranges(&t, multipliers, gap))
 }
 
 // The ranges of the first duties, from the multipliers and the gap of an accepted plan.
-pub fn first_ranges(t: Tape, multipliers: &[i32], gap: i64) -> Ranges
-    requires legal { Legal t × (length multipliers.now ≡ t.horizon * t.n) × (wrong_multipliers multipliers.now ≡ false) }
+pub fn first_ranges(t: &Tape, multipliers: &[i32], gap: i64) -> Ranges
+    requires legal { Legal t.now × (length multipliers.now ≡ t.now.horizon * t.now.n) × (wrong_multipliers multipliers.now ≡ false) }
     requires pos { (pos 0 ≼ gap) × (gap ≼ pos most_wanted) }
-    ensures { result ≡ first_ranges t multipliers.now gap }
+    ensures { result ≡ first_ranges t.now multipliers.now gap }
 {
     let y = padded_multipliers(multipliers, t.n, t.horizon);
     let terms = terms_of(t);
     Ranges {
-        u0: duty_range(t, terms, y, gap, 0),
-        u1: duty_range(t, terms, y, gap, 1),
-        u2: duty_range(t, terms, y, gap, 2),
-        u3: duty_range(t, terms, y, gap, 3),
+        u0: duty_range(t, &terms, &y, gap, 0),
+        u1: duty_range(t, &terms, &y, gap, 1),
+        u2: duty_range(t, &terms, &y, gap, 2),
+        u3: duty_range(t, &terms, &y, gap, 3),
     }
 }
 
 // The range of u(0,j). Beyond m the term is blank: its weight and its limits are 0.
-fn duty_range(t: Tape, terms: Terms, y: [i64; 72], gap: i64, j: usize) -> Range
-    requires legal { Legal t × TermsOf t terms.penalty terms.low terms.high terms.reference }
-    requires bounded { Bounded most_multiplier y × BlankMultipliers t.n y × (pos 0 ≼ gap) × (gap ≼ pos most_wanted) × (j < 4) }
-    ensures { result ≡ duty_range t (padded y) gap j }
+fn duty_range(t: &Tape, terms: &[Term; 120], y: &[i64; 72], gap: i64, j: usize) -> Range
+    requires legal { Legal t.now × TermsOf t.now terms.now }
+    requires bounded { Bounded most_multiplier y.now × BlankMultipliers t.now.n y.now × (pos 0 ≼ gap) × (gap ≼ pos most_wanted) × (j < 4) }
+    ensures { result ≡ duty_range t.now (padded y.now) gap j }
 {
-    let s = input_slope_at(&t.b, &y, 0, j);
-    range_of(
-        terms.penalty[j],
-        terms.low[j],
-        terms.high[j],
-        terms.reference[j],
-        s,
-        gap,
-    )
+    let s = input_slope_at(&t.b, y, 0, j);
+    let term = terms[j];
+    range_of(term.penalty, term.low, term.high, term.reference, s, gap)
 }

@@ -14,12 +14,14 @@ use Rattle.integer.proofs.Sum.{sum_zero}
 use Rattle.commands.specs.Ranges.{most_number}
 use Rattle.tape.specs.declared.Tape.{Tape}
 use Rattle.tape.specs.Legal.{Legal}
-use Rattle.problem.specs.Model.{Term, problem_of, state_at, model_sum, residual}
+use Rattle.problem.specs.declared.Term.{Term}
+use Rattle.problem.specs.Model.{problem_of, state_at, model_sum, residual}
 use Rattle.problem.specs.Cost.{Within}
 use Rattle.problem.specs.Dual.{input_slope, state_slope}
 use Rattle.primal.specs.Padded.{state_matrix, input_matrix, padded, padded_plan, term_at}
 use Rattle.primal.specs.Ranges.{most_residual}
-use Rattle.primal.specs.Terms.{blank_term, TermsOf}
+use Rattle.primal.specs.Padded.{blank_term}
+use Rattle.primal.specs.Terms.{TermsOf}
 use Rattle.primal.specs.Held.{BlankMultipliers, BlankPlan, HeldMultipliers, HeldPlan}
 use Rattle.primal.specs.Lent.{lent_multipliers, lent_of}
 use Rattle.primal.proofs.Filled.{held_multipliers}
@@ -44,19 +46,19 @@ use Rattle.rounds.specs.Held.{NextHeld}
 -- ---- The table
 
 -- every P of a tape is 4096 h
-pub weights-whole : {t : Tape} {penalty low high reference : List ℤ} → TermsOf t penalty low high reference → (p : ℕ) → p < 120 → Whole (at penalty p)
-weights-whole {t} {penalty} {low} {high} {reference} terms p h =
+pub weights-whole : {t : Tape} {table : List Term} → TermsOf t table → (p : ℕ) → p < 120 → Whole (term_at table p).penalty
+weights-whole {t} {table} terms p h =
     let e : 10 * (p / 10) + p % 10 ≡ p = omega arith in
-    subst⁻¹ (λ (q : ℕ). Whole (at penalty q)) (sym e)
+    subst⁻¹ (λ (q : ℕ). Whole (term_at table q).penalty) (sym e)
     (go (p / 10) (p % 10) (omega arith) (omega arith) (lt_or_le (p % 10) 4) (lt_or_le (p % 10) t.m) (lt_or_le (p % 10 - 4) t.n))
   where
-    of : (q : ℕ) {r : Term} → term_at penalty low high reference q ≡ r → Whole r.penalty → Whole (at penalty q)
+    of : (q : ℕ) {r : Term} → term_at table q ≡ r → Whole r.penalty → Whole (term_at table q).penalty
     of q e w = subst⁻¹ (λ (r : Term). Whole r.penalty) e w
 
     none : Whole (pos 0)
     none = record { weight = pos 0; is = refl }
 
-    go : (k c : ℕ) → k < 12 → c < 10 → (c < 4) ⊎ (4 ≤ c) → (c < t.m) ⊎ (t.m ≤ c) → (c - 4 < t.n) ⊎ (t.n ≤ c - 4) → Whole (at penalty (10 * k + c))
+    go : (k c : ℕ) → k < 12 → c < 10 → (c < 4) ⊎ (4 ≤ c) → (c < t.m) ⊎ (t.m ≤ c) → (c - 4 < t.n) ⊎ (t.n ≤ c - 4) → Whole (term_at table (10 * k + c)).penalty
     go k c a b (inl x) (inl y) z = of (10 * k + c) (terms.input k c a y) (record { weight = at t.weight (t.n + c); is = refl })
     go k c a b (inl x) (inr y) z = of (10 * k + c) (terms.no_input k c a y x) none
     go k c a b (inr x) y (inl z) =
@@ -75,8 +77,8 @@ held-ahead k {y} {previous} few hy hp fill =
 
 -- ---- Step 2
 
-module _ (t : Tape) (legal : Legal t) {penalty low high reference table : List ℤ} (terms : TermsOf t penalty low high reference)
-    (made : RowsOf penalty low high reference table) where
+module _ (t : Tape) (legal : Legal t) {all : List Term} {table : List ℤ} (terms : TermsOf t all)
+    (made : RowsOf all table) where
   pub input_term_lem : (k j : ℕ) → k < t.horizon → j < t.m → term_in table (10 * k + j) ≡ (problem_of t).input_term k j
   input_term_lem k j h m =
       let r = legal.inputs.1 in

@@ -10,13 +10,15 @@ use Rattle.integer.specs.Sum.{sum}
 use Rattle.integer.proofs.Sum.{sum_cong, sum-add, sum_pad}
 use Rattle.tape.specs.declared.Tape.{Tape}
 use Rattle.tape.specs.Legal.{Legal}
-use Rattle.problem.specs.Model.{Term, problem_of}
+use Rattle.problem.specs.declared.Term.{Term}
+use Rattle.problem.specs.Model.{problem_of}
 use Rattle.problem.specs.Cost.{total, cost, plan_cost}
 use Rattle.problem.specs.Dual.{floor}
 use Rattle.problem.proofs.Duality.{sound}
 use Rattle.problem.proofs.Upper.{upper, pulls, floor-below_upper}
 use Rattle.primal.specs.Padded.{padded, padded_plan}
-use Rattle.primal.specs.Terms.{blank_term, TermsOf}
+use Rattle.primal.specs.Padded.{blank_term}
+use Rattle.primal.specs.Terms.{TermsOf}
 use Rattle.primal.specs.Held.{BlankMultipliers, BlankPlan, HeldPlan}
 use Rattle.dual.specs.Slopes.{by_place}
 use Rattle.steps.specs.Steps.{minimiser, minimisers}
@@ -34,8 +36,8 @@ blank-cost : {r : Term} (s : ℤ) → r ≡ blank_term → cost r (minimiser r s
 unfolding cost
 blank-cost s e = rw (e, minimiser-blank s)
 
-module _ (t : Tape) (legal : Legal t) (y : List ℤ) {penalty low high reference table v : List ℤ} (terms : TermsOf t penalty low high reference)
-    (made : RowsOf penalty low high reference table)
+module _ (t : Tape) (legal : Legal t) (y : List ℤ) {all : List Term} {table v : List ℤ} (terms : TermsOf t all)
+    (made : RowsOf all table)
     (steps : Steps 10 t.horizon (by_place (input_number table t.b y) (state_number t.horizon table t.a y)) v) where
   abbrev input_costs : (ℕ → ℕ → ℤ) → ℤ
   input_costs u = sum t.horizon (λ k. sum t.m (λ j. cost ((problem_of t).input_term k j) (u k j)))

@@ -30,7 +30,7 @@ use passes::followed::follow;
 use passes::forced::force;
 use primal::cost::ceiling_of;
 use primal::model::residuals;
-use primal::terms::Terms;
+use problem::Term;
 use steps::arrays::multipliers_ahead;
 use steps::verdict::Verdict;
 use tape::Tape;
@@ -108,52 +108,49 @@ impl Outcome {
 }
 
 // Step 4 by command 51, from the numbers v of step 2.
-fn next_by_band(t: Tape, rows: &[Row; 72], ahead: [i64; 72], v: [i64; 120]) -> [i64; 72]
-    requires legal { Legal t × (uses_band t ≡ true) × TapeRows t rows.now × BlankMultipliers t.n ahead × Bounded most_multiplier ahead }
-    requires blank_plan { BlankPlan t.n t.m v × Bounded most_number v }
-    ensures { NextHeld t ahead v result }
+fn next_by_band(t: &Tape, rows: &[Row; 72], ahead: &[i64; 72], v: &[i64; 120]) -> [i64; 72]
+    requires legal { Legal t.now × (uses_band t.now ≡ true) × TapeRows t.now rows.now × BlankMultipliers t.now.n ahead.now × Bounded most_multiplier ahead.now }
+    requires blank_plan { BlankPlan t.now.n t.now.m v.now × Bounded most_number v.now }
+    ensures { NextHeld t.now ahead.now v.now result }
 {
-    let e = residuals(&t.a, &t.b, &t.drift, &t.start, &v, t.horizon);
-    ascend_by_band(t, rows, ahead, e)
+    let e = residuals(&t.a, &t.b, &t.drift, &t.start, v, t.horizon);
+    ascend_by_band(t, rows, ahead, &e)
 }
 
 // The rounds, from what is made once a solve: the table of the terms, the eliminated rows, where the
 // tape is solved by them, and the ceiling.
 fn search(
-    t: Tape,
-    terms: Terms,
-    table: [i64; 840],
+    t: &Tape,
+    terms: &[Term; 120],
+    table: &[i64; 840],
     factored: &Option<[Row; 72]>,
     highest: i64,
 ) -> Outcome
-    requires legal { Legal t × TermsOf t terms.penalty terms.low terms.high terms.reference × (highest ≡ ceiling (problem_of t)) }
-    requires rows_of { RowsOf terms.penalty terms.low terms.high terms.reference table × Factored t factored.now }
-    ensures t_value { rounds t t.rounds 0 (start t) (start t) ≡ ending_of t result.ended result.plan result.multipliers }
+    requires legal { Legal t.now × TermsOf t.now terms.now × (highest ≡ ceiling (problem_of t.now)) }
+    requires rows_of { RowsOf terms.now table.now × Factored t.now factored.now }
+    ensures t_value { rounds t.now t.now.rounds 0 (start t.now) (start t.now) ≡ ending_of t.now result.ended result.plan result.multipliers }
     ensures bounded { Bounded most_number result.plan × Bounded most_multiplier result.multipliers }
 {
-    let n = t.n;
     let horizon = t.horizon;
-    let gain = t.gain;
-    let wanted = t.wanted;
     let mut state = RoundState::start();
     for k in 0..t.rounds {
         let mut y = [0i64; 72];
         multipliers_ahead(&mut y, &state.current, &state.previous, k as i64, horizon);
         let mut v = [0i64; 120];
-        let costs = minimise(&mut v, &table, &t.a, &t.b, &y, horizon);
+        let costs = minimise(&mut v, table, &t.a, &t.b, &y, horizon);
         let mut forced = [0i64; 72];
         force(&mut forced, &t.b, &t.drift, &v, horizon);
         let mut next = [0i64; 72];
-        let pull = ascend(&mut next, &t.a, &forced, &t.start, &v, &y, gain, horizon);
+        let pull = ascend(&mut next, &t.a, &forced, &t.start, &v, &y, t.gain, horizon);
         if let Some(rows) = factored {
-            next = next_by_band(t, rows, y, v);
+            next = next_by_band(t, rows, &y, &v);
         }
-        let followed = follow(&mut v, &table, &t.a, &forced, &t.start, n, horizon);
+        let followed = follow(&mut v, table, &t.a, &forced, &t.start, t.n, horizon);
         let cost = followed.map(|states| costs.inputs + states);
         let upper = costs.inputs + costs.states + pull;
         let least = cost.map(|cost| cost - upper);
-        if may_answer(least, wanted, highest, upper) {
-            match weigh(t, terms, y, highest, cost) {
+        if may_answer(least, t.wanted, highest, upper) {
+            match weigh(t, terms, &y, highest, cost) {
                 Some(Verdict::Proved(gap)) => {
                     return Outcome::at_end(Ended::Proved(k + 1, gap), v, y);
                 }
@@ -166,18 +163,11 @@ fn search(
     Outcome::open()
 }
 
-pub fn run_rounds(t: Tape, terms: Terms) -> Outcome
-    requires { Legal t × TermsOf t terms.penalty terms.low terms.high terms.reference }
-    ensures t_value { rounds t t.rounds 0 (start t) (start t) ≡ ending_of t result.ended result.plan result.multipliers }
+pub fn run_rounds(t: &Tape, terms: &[Term; 120]) -> Outcome
+    requires { Legal t.now × TermsOf t.now terms.now }
+    ensures t_value { rounds t.now t.now.rounds 0 (start t.now) (start t.now) ≡ ending_of t.now result.ended result.plan result.multipliers }
     ensures bounded { Bounded most_number result.plan × Bounded most_multiplier result.multipliers }
 {
-    let highest = ceiling_of(
-        &terms.penalty,
-        &terms.low,
-        &terms.high,
-        &terms.reference,
-        t.horizon,
-    );
-    let table = table_of(&terms.penalty, &terms.low, &terms.high, &terms.reference);
-    search(t, terms, table, &factored_of(t), highest)
+    let highest = ceiling_of(terms, t.horizon);
+    search(t, terms, &table_of(terms), &factored_of(t), highest)
 }

@@ -12,7 +12,7 @@ ghost use Rattle.steps.specs.Held.{verdict_by};
 ghost use Rattle.rounds.specs.Held.{may_answer};
 
 use dual::floor::floor_of;
-use primal::terms::Terms;
+use problem::Term;
 use steps::verdict::{Verdict, verdict_of};
 use tape::Tape;
 
@@ -26,27 +26,16 @@ pub fn may_answer(gap: Option<i64>, wanted: i64, highest: i64, upper: i64) -> bo
 
 // The verdict on a candidate by its cost, unless it is dropped, and by the floor of y.
 pub fn weigh(
-    t: Tape,
-    terms: Terms,
-    y: [i64; 72],
+    t: &Tape,
+    terms: &[Term; 120],
+    y: &[i64; 72],
     highest: i64,
     cost: Option<i64>,
 ) -> Option<Verdict>
-    requires legal { Legal t × TermsOf t terms.penalty terms.low terms.high terms.reference × BlankMultipliers t.n y × Bounded most_multiplier y }
+    requires legal { Legal t.now × TermsOf t.now terms.now × BlankMultipliers t.now.n y.now × Bounded most_multiplier y.now }
     requires cost_bound { IfSome cost (λ k. nat_abs k ≤ 200540160000000000) }
-    ensures { result ≡ verdict_by (option_map (λ k. k -ℤ floor (problem_of t) (padded y)) cost) t.wanted highest (floor (problem_of t) (padded y)) }
+    ensures { result ≡ verdict_by (option_map (λ k. k -ℤ floor (problem_of t.now) (padded y.now)) cost) t.now.wanted highest (floor (problem_of t.now) (padded y.now)) }
 {
-    let floor = floor_of(
-        &t.a,
-        &t.b,
-        &t.drift,
-        &t.start,
-        &terms.penalty,
-        &terms.low,
-        &terms.high,
-        &terms.reference,
-        &y,
-        t.horizon,
-    );
+    let floor = floor_of(&t.a, &t.b, &t.drift, &t.start, terms, y, t.horizon);
     verdict_of(cost.map(|cost| cost - floor), t.wanted, highest, floor)
 }

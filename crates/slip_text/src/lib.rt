@@ -22,7 +22,7 @@ pub fn tape_slip(tape: &[u8]) -> Text
     match solution.answer {
         Ok(Solved::Proved(rounds, gap, first)) => {
             let q = numbers.horizon * numbers.n;
-            let ranges = first_ranges(numbers, &solution.multipliers[..q], gap);
+            let ranges = first_ranges(&numbers, &solution.multipliers[..q], gap);
             proved(rounds, gap, first, ranges, numbers.m)
         }
         Ok(Solved::Impossible(rounds)) => kind_and_rounds(b"impossible\n", rounds),

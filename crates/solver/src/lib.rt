@@ -64,8 +64,7 @@ fn solve_on(t: &Tape, plan: &mut [i32], multipliers: &mut [i32]) -> Result<Solve
     if multipliers.len() != horizon * n {
         return Err(Refusal::Length);
     }
-    let terms = terms_of(*t);
-    let outcome = run_rounds(*t, terms);
+    let outcome = run_rounds(t, &terms_of(t));
     hand_over(t, outcome, plan, multipliers)
 }
 

@@ -11,11 +11,11 @@ use Rattle.integer.proofs.Order.{order}
 use Rattle.integer.proofs.Limited.{limited-low, limited-high, size-limited}
 use Rattle.integer.proofs.Tests.{by_test}
 use Rattle.commands.specs.Ranges.{most_number, most_multiplier}
-use Rattle.problem.specs.Model.{Term}
+use Rattle.problem.specs.declared.Term.{Term}
 use Rattle.problem.specs.Cost.{Within}
 use Rattle.problem.specs.Dual.{weightless}
 use Rattle.problem.proofs.Piece.{one_limit}
-use Rattle.primal.specs.Terms.{blank_term}
+use Rattle.primal.specs.Padded.{blank_term}
 use Rattle.steps.specs.Steps.{ahead, minimiser, ascended, gain_correction}
 
 pub size-ahead : (k y previous : ℤ) → nat_abs (ahead k y previous) ≤ most_multiplier

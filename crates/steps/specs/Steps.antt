@@ -6,7 +6,8 @@ use Rattle.integer.specs.Quotient.{◌÷◌}
 use Rattle.integer.specs.Tests.{outside, any}
 use Rattle.commands.specs.Ranges.{most_multiplier}
 use Rattle.tape.specs.declared.Tape.{Tape}
-use Rattle.problem.specs.Model.{Term, Problem, Plan, problem_of, model_sum, rounded}
+use Rattle.problem.specs.declared.Term.{Term}
+use Rattle.problem.specs.Model.{Problem, Plan, problem_of, model_sum, rounded}
 use Rattle.problem.specs.Cost.{plan_cost}
 use Rattle.problem.specs.Dual.{input_slope, state_slope, weightless, unweighted, floor, shows}
 use Rattle.steps.specs.declared.verdict.Verdict.{Verdict}

@@ -17,7 +17,7 @@ in_range c = sym c.is_any_outside.ensures ∙ c.if-is_any_outside.false
 
 pub overflow_mul-horizon : goal.overflow_mul-horizon
 overflow_mul-horizon c =
-    let t = c.args.t in
+    let t = c.args.t.now in
     let l = c.requires in
     count_fits t.horizon (t.n + t.m) l.steps.1 (omega arith)
 
@@ -62,7 +62,7 @@ judge_gap-requires c =
 pub returns : goal.returns
 unfolding judged_on
 returns c =
-    let t = c.args.t in
+    let t = c.args.t.now in
     rw (
       eq-eqb _ _ c.if-plan-horizon.false,
       eq-eqb _ _ c.if-multipliers-horizon.false,

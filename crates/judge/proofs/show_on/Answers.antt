@@ -10,16 +10,14 @@ use Rattle.primal.proofs.Held.{floor-held}
 use Rattle.lent.specs.Checks.{wrong_multipliers}
 use Rattle.judge.specs.Judging.{shown_on}
 use Rattle.judge.proofs.show_on.Goals as goal
-use Rattle.judge.proofs.show_on.Tie as tie
-use Rattle.judge.proofs.show_on.Reads as reads
-use Rattle.judge.proofs.show_on.Lts as lts
+use Rattle.judge.proofs.show_on.Goals.{Else-is_any_outside, After-is_shown}
 
 -- the multipliers passed their test
-in_range : (c : goal.Else-is_any_outside) → wrong_multipliers c.args.multipliers.now ≡ false
+in_range : (c : Else-is_any_outside) → wrong_multipliers c.args.multipliers.now ≡ false
 in_range c = sym c.is_any_outside.ensures ∙ c.if-is_any_outside.false
 
 pub overflow_mul-horizon : goal.overflow_mul-horizon
-overflow_mul-horizon c = let l = c.requires in count_fits c.args.t.horizon c.args.t.n l.steps.1 (omega arith)
+overflow_mul-horizon c = let l = c.requires in count_fits c.args.t.now.horizon c.args.t.now.n l.steps.1 (omega arith)
 
 pub returns-then-multipliers-horizon : goal.returns-then-multipliers-horizon
 unfolding shown_on
@@ -30,25 +28,22 @@ unfolding shown_on
 returns-then-is_any_outside c = rw (eq-eqb _ _ c.if-multipliers-horizon.false, ← c.is_any_outside.ensures, c.if-is_any_outside.true)
 
 pub padded_multipliers-y-requires : goal.padded_multipliers-y-requires
-padded_multipliers-y-requires c = let l = c.requires in (l.states.1, l.steps.1, c.if-multipliers-horizon.false, in_range c)
+padded_multipliers-y-requires c = let l = c.requires in (l.states.1, l.steps.1, c.if-multipliers-horizon.false, in_range (goal.at.padded_multipliers-y-requires c).Else-is_any_outside)
 
 -- what the padded multipliers show, the lent ones do
-shown_is : (c : lts.After-is_shown tie.the-claims reads.Pre reads.Post tie.handed_clauses) →
-    let s = c.before.before.before.before.before.before in
-    c.is_shown.result ≡ shows (problem_of s.args.t) (multipliers_of s.args.t.n s.args.multipliers.now)
+shown_is : (c : After-is_shown) → c.is_shown.result ≡ shows (problem_of c.args.t.now) (multipliers_of c.args.t.now.n c.args.multipliers.now)
 shown_is c =
-    let s = c.before.before.before.before.before.before in
-    let t = s.args.t in
-    c.is_shown.ensures ∙ ap (lt_z (ceiling (problem_of t))) (floor-held t s.requires c.padded_multipliers-y.ensures)
+    let t = c.args.t.now in
+    c.is_shown.ensures ∙ ap (lt_z (ceiling (problem_of t))) (floor-held t c.requires c.padded_multipliers-y.ensures)
 
 pub returns-then-is_shown : goal.returns-then-is_shown
 unfolding shown_on
 returns-then-is_shown c =
-    let p = c.before.before.before.before in
-    rw (eq-eqb _ _ p.if-multipliers-horizon.false, in_range p, sym (shown_is c.before) ∙ c.if-is_shown.true) refl
+    let e = shown_is (goal.at.returns-then-is_shown c).After-is_shown in
+    rw (eq-eqb _ _ c.if-multipliers-horizon.false, in_range (goal.at.returns-then-is_shown c).Else-is_any_outside, sym e ∙ c.if-is_shown.true) refl
 
 pub returns : goal.returns
 unfolding shown_on
 returns c =
-    let p = c.before.before.before.before in
-    rw (eq-eqb _ _ p.if-multipliers-horizon.false, in_range p, sym (shown_is c.before) ∙ c.if-is_shown.false) refl
+    let e = shown_is (goal.at.returns c).After-is_shown in
+    rw (eq-eqb _ _ c.if-multipliers-horizon.false, in_range (goal.at.returns c).Else-is_any_outside, sym e ∙ c.if-is_shown.false) refl

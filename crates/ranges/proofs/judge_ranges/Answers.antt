@@ -66,12 +66,13 @@ module _ (c : In_ok-gap) where
 
 pub first_ranges-requires : goal.first_ranges-requires
 first_ranges-requires c =
-    let g = grant c in
-    let t = tape_is c in
-    rw (gap_back c)
+    let i = (goal.at.first_ranges-requires c).In_ok-gap in
+    let g = grant i in
+    let t = tape_is i in
+    rw (gap_back i)
     (record {
       legal = (rw t at g.lawful, rw t at g.long, g.ranged);
-      pos = (nonneg c, small c);
+      pos = (nonneg i, small i);
     })
 
 pub returns : goal.returns

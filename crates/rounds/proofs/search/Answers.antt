@@ -38,41 +38,17 @@ use Rattle.rounds.proofs.Weighing.{map_same, size_mapped, Costed, costed, verdic
 use Rattle.rounds.proofs.Entered.{Begins, running_start, running_next, open_is, whole_is}
 use Rattle.rounds.proofs.search.Goals as goal
 use Rattle.rounds.proofs.search.Goals.{in-Some, in_default, then-may_answer+in-None, else-may_answer}
-use Rattle.rounds.proofs.search.Tie as tie
-use Rattle.rounds.proofs.search.Reads as reads
-use Rattle.rounds.proofs.search.Lts as lts
-
--- the places after each call of a round, its begin, and where the function starts
-abbrev begin : lts.At-loop tie.the-claims reads.Pre reads.Post goal.the-invariant-loop-k goal.the-decreases-loop-k tie.handed_clauses → lts.Start tie.the-claims reads.Pre reads.Post goal.the-invariant-loop-k goal.the-decreases-loop-k tie.handed_clauses
-begin c = c.before.before.before.before
-
-abbrev turn : lts.After-multipliers_ahead tie.the-claims reads.Pre reads.Post goal.the-invariant-loop-k goal.the-decreases-loop-k tie.handed_clauses → lts.In-loop tie.the-claims reads.Pre reads.Post goal.the-invariant-loop-k goal.the-decreases-loop-k tie.handed_clauses
-turn c = c.before.before.before.before
-
-abbrev led : lts.After-minimise tie.the-claims reads.Pre reads.Post goal.the-invariant-loop-k goal.the-decreases-loop-k tie.handed_clauses → lts.After-multipliers_ahead tie.the-claims reads.Pre reads.Post goal.the-invariant-loop-k goal.the-decreases-loop-k tie.handed_clauses
-led c = c.before.before.before.before.before.before
-
-abbrev minimised : lts.After-force tie.the-claims reads.Pre reads.Post goal.the-invariant-loop-k goal.the-decreases-loop-k tie.handed_clauses → lts.After-minimise tie.the-claims reads.Pre reads.Post goal.the-invariant-loop-k goal.the-decreases-loop-k tie.handed_clauses
-minimised c = c.before.before.before.before.before
-
-abbrev forced : lts.After-ascend tie.the-claims reads.Pre reads.Post goal.the-invariant-loop-k goal.the-decreases-loop-k tie.handed_clauses → lts.After-force tie.the-claims reads.Pre reads.Post goal.the-invariant-loop-k goal.the-decreases-loop-k tie.handed_clauses
-forced c = c.before.before.before.before.before.before.before
-
-abbrev climbed : lts.After-follow tie.the-claims reads.Pre reads.Post goal.the-invariant-loop-k goal.the-decreases-loop-k tie.handed_clauses → lts.After-ascend tie.the-claims reads.Pre reads.Post goal.the-invariant-loop-k goal.the-decreases-loop-k tie.handed_clauses
-climbed c = c.before.before.before.before.before.before.before
+use Rattle.rounds.proofs.search.Goals.{In-loop-k, After-multipliers_ahead, After-minimise-costs, After-force, After-follow-followed, After-map-cost, After-map-least, After-weigh, After-next-state}
 
 pub loop-k-init : goal.loop-k-init
 loop-k-init c = rw (c.start-state.ensures.0, c.start-state.ensures.1) (running_start _)
 
-module _ (c : lts.In-loop tie.the-claims reads.Pre reads.Post goal.the-invariant-loop-k goal.the-decreases-loop-k tie.handed_clauses) where
-  abbrev s : lts.Start tie.the-claims reads.Pre reads.Post goal.the-invariant-loop-k goal.the-decreases-loop-k tie.handed_clauses
-  s = begin c.before
-
+module _ (c : In-loop-k) where
   abbrev t : Tape
-  t = s.args.t
+  t = c.args.t.now
 
   legal : Legal t
-  legal = s.requires.legal.0
+  legal = c.requires.legal.0
 
   early : c.loop-k.k < t.rounds
   early = omega arith
@@ -94,122 +70,121 @@ module _ (c : lts.In-loop tie.the-claims reads.Pre reads.Post goal.the-invariant
 
 pub multipliers_ahead-requires : goal.multipliers_ahead-requires
 multipliers_ahead-requires c =
-    let b = c in
+    let b = (goal.at.multipliers_ahead-requires c).In-loop-k in
     let h = b.loop-k.invariant.held in
-    let l = small b.before.before.before.before in
-    rw (number_is b.before.before.before.before) (omega (arith, order), omega (arith, order), (legal b.before.before.before.before).steps.1, h.bounded, h.bounded_previous, refl)
+    let l = small b in
+    rw (number_is b) (omega (arith, order), omega (arith, order), (legal b).steps.1, h.bounded, h.bounded_previous, refl)
 
 -- step 1
-held : (c : lts.After-multipliers_ahead tie.the-claims reads.Pre reads.Post goal.the-invariant-loop-k goal.the-decreases-loop-k tie.handed_clauses) →
-    let b = turn c in
-    let x = b.loop-k in
-    HeldMultipliers (t b).n (t b).horizon (λ q i. ahead (pos x.k) (padded x.state.current q i) (padded x.state.previous q i)) c.multipliers_ahead.new.next
+held : (c : After-multipliers_ahead) →
+    let x = c.loop-k in
+    HeldMultipliers c.args.t.now.n c.args.t.now.horizon (λ q i. ahead (pos x.k) (padded x.state.current q i) (padded x.state.previous q i)) c.multipliers_ahead.new.next
 held c =
-    let b = turn c in
+    let b = (goal.at.After-multipliers_ahead c).In-loop-k in
     let h = b.loop-k.invariant.held in
     held-ahead b.loop-k.k (legal b).states.1 h.blank h.blank_previous (rw (number_is b) at c.multipliers_ahead.ensures)
 
 pub minimise-costs-requires : goal.minimise-costs-requires
 minimise-costs-requires c =
-    let d = c in
-    let b = turn d.before.before.before.before.before in
-    let l = legal b in
-    (l.steps.1, refl, (s b).requires.rows_of.0.rows, l.a, l.b, (held d.before.before.before.before.before).bounded)
+    let p = goal.at.minimise-costs-requires c in
+    let l = legal p.In-loop-k in
+    (l.steps.1, refl, c.requires.rows_of.0.rows, l.a, l.b, (held p.After-multipliers_ahead).bounded)
 
 -- step 2
-module _ (c : lts.After-minimise tie.the-claims reads.Pre reads.Post goal.the-invariant-loop-k goal.the-decreases-loop-k tie.handed_clauses) where
-  abbrev here : lts.In-loop tie.the-claims reads.Pre reads.Post goal.the-invariant-loop-k goal.the-decreases-loop-k tie.handed_clauses
-  here = turn (led c)
+module _ (c : After-minimise-costs) where
+  abbrev here : In-loop-k
+  here = (goal.at.After-minimise-costs c).In-loop-k
 
   abbrev y : List ℤ
-  y = (led c).multipliers_ahead.new.next
+  y = c.multipliers_ahead.new.next
 
   abbrev v : List ℤ
   v = c.minimise-costs.new.v
 
+  stepped : HeldMultipliers (t here).n (t here).horizon (λ q i. ahead (pos here.loop-k.k) (padded here.loop-k.state.current q i) (padded here.loop-k.state.previous q i)) y
+  stepped = held (goal.at.After-minimise-costs c).After-multipliers_ahead
+
   numbers : HeldPlan (t here).n (t here).m (t here).horizon (minimisers (problem_of (t here)) (padded y)) v
   numbers =
       let e = c.minimise-costs.ensures.steps in
-      held_numbers (t here) (legal here) (s here).requires.legal.1 (s here).requires.rows_of.0 y e.0 (held (led c)).blank e.1
+      held_numbers (t here) (legal here) c.requires.legal.1 c.requires.rows_of.0 y e.0 stepped.blank e.1
 
   begins : Begins (t here) here.loop-k.k here.loop-k.state.current here.loop-k.state.previous y v
-  begins = record { held = held (led c); numbers = numbers }
+  begins = record { held = stepped; numbers = numbers }
 
 pub force-requires : goal.force-requires
 force-requires c =
-    let d = c in
-    let l = legal (here d.before.before.before.before) in
-    (l.steps.1, refl, l.b, l.drift, (numbers d.before.before.before.before).bounded)
+    let p = goal.at.force-requires c in
+    let l = legal p.In-loop-k in
+    (l.steps.1, refl, l.b, l.drift, (numbers p.After-minimise-costs).bounded)
 
-few : (c : lts.After-force tie.the-claims reads.Pre reads.Post goal.the-invariant-loop-k goal.the-decreases-loop-k tie.handed_clauses) → Bounded most_forced c.force.new.forced
+few : (c : After-force) → Bounded most_forced c.force.new.forced
 few c =
-    let d = minimised c in
-    let l = legal (here d) in
-    forced_bounded (t (here d)).horizon l.b l.drift (numbers d).bounded c.force.ensures
+    let p = goal.at.After-force c in
+    let l = legal p.In-loop-k in
+    forced_bounded c.args.t.now.horizon l.b l.drift (numbers p.After-minimise-costs).bounded c.force.ensures
 
 pub ascend-pull-requires : goal.ascend-pull-requires
 ascend-pull-requires c =
-    let f : lts.After-force tie.the-claims reads.Pre reads.Post goal.the-invariant-loop-k goal.the-decreases-loop-k tie.handed_clauses = c.before.before.before.before.before.before in
-    let d = minimised f in
-    let b = here d in
+    let p = goal.at.ascend-pull-requires c in
+    let b = p.In-loop-k in
+    let d = p.After-minimise-costs in
     let l = legal b in
-    rw (gain_is b) (record { horizon_bound = (l.steps.1, refl, gain_small b, (held (led d)).bounded); bounded = (l.a, few f, l.start, (numbers d).bounded) })
+    rw (gain_is b) (record { horizon_bound = (l.steps.1, refl, gain_small b, (stepped d).bounded); bounded = (l.a, few p.After-force, l.start, (numbers d).bounded) })
 
 pub next_by_band-next-requires : goal.next_by_band-next-requires
 next_by_band-next-requires c =
-    let m = minimised (forced c.before) in
-    let b = here m in
-    let f = subst (λ o. Factored (t b) o) c.in-Some.is (s b).requires.rows_of.1 in
-    let y = held (led m) in
+    let p = goal.at.next_by_band-next-requires c in
+    let m = p.After-minimise-costs in
+    let f = subst (λ o. Factored c.args.t.now o) c.in-Some.is c.requires.rows_of.1 in
     record {
-      legal = (legal b, f.0, f.1, y.blank, y.bounded);
+      legal = (legal p.In-loop-k, f.0, f.1, (stepped m).blank, (stepped m).bounded);
       blank_plan = ((numbers m).blank, (numbers m).bounded);
     }
 
 pub follow-followed-requires : goal.follow-followed-requires
 follow-followed-requires c =
-    let f : lts.After-force tie.the-claims reads.Pre reads.Post goal.the-invariant-loop-k goal.the-decreases-loop-k tie.handed_clauses = forced c.before.before.before.before.before.before in
-    let d = minimised f in
-    let b = here d in
-    let l = legal b in
+    let p = goal.at.follow-followed-requires c in
+    let d = p.After-minimise-costs in
+    let l = legal p.In-loop-k in
     record {
-      n_bound = (l.states.1, l.steps.1, (numbers d).long, (numbers d).bounded, (s b).requires.rows_of.0.rows);
-      bounded = (l.a, few f, l.start);
+      n_bound = (l.states.1, l.steps.1, (numbers d).long, (numbers d).bounded, c.requires.rows_of.0.rows);
+      bounded = (l.a, few p.After-force, l.start);
     }
 
-module _ (c : lts.After-follow tie.the-claims reads.Pre reads.Post goal.the-invariant-loop-k goal.the-decreases-loop-k tie.handed_clauses) where
-  abbrev at_forced : lts.After-force tie.the-claims reads.Pre reads.Post goal.the-invariant-loop-k goal.the-decreases-loop-k tie.handed_clauses
-  at_forced = forced (climbed c)
+module _ (c : After-follow-followed) where
+  abbrev at_forced : After-force
+  at_forced = (goal.at.After-follow-followed c).After-force
 
-  abbrev at_minimised : lts.After-minimise tie.the-claims reads.Pre reads.Post goal.the-invariant-loop-k goal.the-decreases-loop-k tie.handed_clauses
-  at_minimised = minimised at_forced
+  abbrev at_minimised : After-minimise-costs
+  at_minimised = (goal.at.After-follow-followed c).After-minimise-costs
 
-  abbrev round : lts.In-loop tie.the-claims reads.Pre reads.Post goal.the-invariant-loop-k goal.the-decreases-loop-k tie.handed_clauses
-  round = here at_minimised
+  abbrev round : In-loop-k
+  round = (goal.at.After-follow-followed c).In-loop-k
 
   abbrev inputs : ℤ
-  inputs = at_minimised.minimise-costs.result.inputs
+  inputs = c.minimise-costs.result.inputs
 
   abbrev states : ℤ
-  states = at_minimised.minimise-costs.result.states
+  states = c.minimise-costs.result.states
 
   abbrev pull : ℤ
-  pull = (climbed c).ascend-pull.result
+  pull = c.ascend-pull.result
 
   abbrev followed : Option ℤ
   followed = c.follow-followed.result
 
   size_inputs : nat_abs inputs ≤ 48 * most_cost
-  size_inputs = rw at_minimised.minimise-costs.ensures.inputs_value (size_inputs_total (s round).requires.rows_of.0.rows (t round).horizon (legal round).steps.1 (t round).b (y at_minimised))
+  size_inputs = rw c.minimise-costs.ensures.inputs_value (size_inputs_total c.requires.rows_of.0.rows (t round).horizon (legal round).steps.1 (t round).b (y at_minimised))
 
   size_states : nat_abs states ≤ 72 * most_cost
-  size_states = rw at_minimised.minimise-costs.ensures.states_value (size_states_total (s round).requires.rows_of.0.rows (t round).horizon (legal round).steps.1 (t round).a (y at_minimised))
+  size_states = rw c.minimise-costs.ensures.states_value (size_states_total c.requires.rows_of.0.rows (t round).horizon (legal round).steps.1 (t round).a (y at_minimised))
 
   size_pull : nat_abs pull ≤ 72 * most_pull
   size_pull =
       let l = legal round in
-      rw (climbed c).ascend-pull.ensures.value
-      (size_pulls l.a (few at_forced) l.start (numbers at_minimised).bounded (held (led at_minimised)).bounded (t round).horizon l.steps.1)
+      rw c.ascend-pull.ensures.value
+      (size_pulls l.a (few at_forced) l.start (numbers at_minimised).bounded (stepped at_minimised).bounded (t round).horizon l.steps.1)
 
   inputs_is : back inputs ≡ inputs
   inputs_is = back_is inputs size_inputs (omega arith)
@@ -235,7 +210,7 @@ module _ (c : lts.After-follow tie.the-claims reads.Pre reads.Post goal.the-inva
   size_upper = size-add (inputs +ℤ states) pull (size-add inputs states size_inputs size_states) size_pull
 
   bound : Formed (back (back inputs +ℤ back states) +ℤ back pull) (inputs +ℤ states +ℤ pull)
-  bound = formed (rw (own.is, called pull (climbed c).ascend-pull.type_inv)) size_upper (omega arith)
+  bound = formed (rw (own.is, called pull c.ascend-pull.type_inv)) size_upper (omega arith)
 
   abbrev upper : ℤ
   upper = inputs +ℤ states +ℤ pull
@@ -249,15 +224,15 @@ module _ (c : lts.After-follow tie.the-claims reads.Pre reads.Post goal.the-inva
   abbrev following_plan : Plan
   following_plan = candidate (problem_of (t round)) (padded_plan (v at_minimised)).u
 
-  lends : Lends (t round) (s round).args.table (t round).a at_forced.force.new.forced (t round).start (t round).n (t round).horizon (v at_minimised)
+  lends : Lends (t round) c.args.table.now (t round).a c.force.new.forced (t round).start (t round).n (t round).horizon (v at_minimised)
   lends = record {
     legal = legal round;
     states = refl;
     steps = refl;
     matrix = refl;
     started = refl;
-    terms = state_term_lem (t round) (legal round) (s round).requires.legal.1 (s round).requires.rows_of.0;
-    forces = forces_are (t round) (legal round) (v at_minimised) at_forced.force.ensures;
+    terms = state_term_lem (t round) (legal round) c.requires.legal.1 c.requires.rows_of.0;
+    forces = forces_are (t round) (legal round) (v at_minimised) c.force.ensures;
     within = inputs-within (legal round) (padded (y at_minimised)) (numbers at_minimised);
     blank = (numbers at_minimised).blank;
   }
@@ -271,8 +246,8 @@ module _ (c : lts.After-follow tie.the-claims reads.Pre reads.Post goal.the-inva
   kept : Costed (t round) following_plan c.follow-followed.new.plan whole
   kept =
       costed followed inputs followed_by
-      (ap (λ (z : ℤ). z +ℤ state_costs) at_minimised.minimise-costs.ensures.inputs_value
-      ∙ plan_cost_lem (t round) (legal round) (y at_minimised) (s round).requires.legal.1 (s round).requires.rows_of.0 at_minimised.minimise-costs.ensures.steps.0 following_plan.x)
+      (ap (λ (z : ℤ). z +ℤ state_costs) c.minimise-costs.ensures.inputs_value
+      ∙ plan_cost_lem (t round) (legal round) (y at_minimised) c.requires.legal.1 c.requires.rows_of.0 c.minimise-costs.ensures.steps.0 following_plan.x)
 
   abbrev lowest : ℤ
   lowest = floor (problem_of (t round)) (padded (y at_minimised))
@@ -283,141 +258,131 @@ module _ (c : lts.After-follow tie.the-claims reads.Pre reads.Post goal.the-inva
 
   below : lowest ≼ upper
   below =
-      let e = at_minimised.minimise-costs.ensures in
+      let e = c.minimise-costs.ensures in
       subst⁻¹ (λ (z : ℤ). lowest ≼ z)
-      (ap₂ (λ (a b : ℤ). a +ℤ b) (ap₂ (λ (a b : ℤ). a +ℤ b) e.inputs_value e.states_value) (climbed c).ascend-pull.ensures.value)
-      (floor-below (t round) (legal round) (y at_minimised) (s round).requires.legal.1 (s round).requires.rows_of.0 at_minimised.minimise-costs.ensures.steps.0
-      at_forced.force.ensures (held (led at_minimised)).blank (numbers at_minimised).blank (numbers at_minimised))
+      (ap₂ (λ (a b : ℤ). a +ℤ b) (ap₂ (λ (a b : ℤ). a +ℤ b) e.inputs_value e.states_value) c.ascend-pull.ensures.value)
+      (floor-below (t round) (legal round) (y at_minimised) c.requires.legal.1 c.requires.rows_of.0 c.minimise-costs.ensures.steps.0
+      c.force.ensures (stepped at_minimised).blank (numbers at_minimised).blank (numbers at_minimised))
 
-  highest_is : back (s round).args.highest ≡ ceiling (problem_of (t round))
-  highest_is = to_z-of_z (s round).ranges.highest ∙ (s round).requires.legal.2
+  highest_is : back c.args.highest ≡ ceiling (problem_of (t round))
+  highest_is = to_z-of_z c.ranges.highest ∙ c.requires.legal.2
 
   wanted_is : back (t round).wanted ≡ (t round).wanted
   wanted_is =
       let r = (legal round).wanted in
       back_is (t round).wanted {B = 4294967295} (omega (arith, order, size_parts (t round).wanted)) (omega arith)
 
-  abbrev joined : lts.At-match-branch tie.the-claims reads.Pre reads.Post goal.the-invariant-loop-k goal.the-decreases-loop-k tie.handed_clauses
-  joined = c.before.before.before.before.before.before
-
   -- step 4, by either command
-  next_held : NextHeld (t round) (y at_minimised) (v at_minimised) joined.match-factored.next
+  next_held : NextHeld (t round) (y at_minimised) (v at_minimised) c.match-factored.next
   next_held =
       let Next : List ℤ → Type 0 = λ l. NextHeld (t round) (y at_minimised) (v at_minimised) l in
-      elim joined.match-factored.branch [
+      elim c.match-factored.branch [
         | in-Some w ↦ subst⁻¹ Next w.next-is w.next_by_band-next.ensures
         | in_default w ↦ subst⁻¹ Next w.next-is
-            (gain-next (t round) (legal round) (numbers at_minimised).blank (y at_minimised) at_forced.force.ensures
-            (subst (λ o. Factored (t round) o) w.in_default.is (s round).requires.rows_of.1)
-            (held (led at_minimised)).blank (rw (gain_is round) at (climbed c).ascend-pull.ensures.steps.0))
+            (gain-next (t round) (legal round) (numbers at_minimised).blank (y at_minimised) c.force.ensures
+            (subst (λ o. Factored (t round) o) w.in_default.is c.requires.rows_of.1)
+            (stepped at_minimised).blank (rw (gain_is round) at c.ascend-pull.ensures.steps.0))
       ]
 
 pub map-cost-requires : goal.map-cost-requires
-map-cost-requires c = λ x e. search (rules, serving, (summed c.before.before x e).fits)
+map-cost-requires c = λ x e. search (rules, serving, (summed (goal.at.map-cost-requires c).After-follow-followed x e).fits)
 
 pub overflow_add-upper : goal.overflow_add-upper
-overflow_add-upper c = (own c.before.before.before.before.before).fits
+overflow_add-upper c = (own (goal.at.overflow_add-upper c).After-follow-followed).fits
 
 pub overflow_add-upper-in-loop-k : goal.overflow_add-upper-in-loop-k
-overflow_add-upper-in-loop-k c = (bound c.before.before.before.before.before).fits
+overflow_add-upper-in-loop-k c = (bound (goal.at.overflow_add-upper-in-loop-k c).After-follow-followed).fits
 
-costs_are : (c : lts.After-map tie.the-claims reads.Pre reads.Post goal.the-invariant-loop-k goal.the-decreases-loop-k tie.handed_clauses) → c.map-cost.result ≡ whole c.before.before
+costs_are : (c : After-map-cost) → c.map-cost.result ≡ whole (goal.at.After-map-cost c).After-follow-followed
 costs_are c =
-    let f = c.before.before in
+    let f = (goal.at.After-map-cost c).After-follow-followed in
     let e : c.map-cost.result ≡ option_map (λ x. back (back (inputs f) +ℤ back x)) (followed f) = search rules in
     e ∙ map_same _ _ (followed f) (λ x h. (summed f x h).is)
 
 pub map-least-requires : goal.map-least-requires
 map-least-requires c =
-    let m : lts.After-map tie.the-claims reads.Pre reads.Post goal.the-invariant-loop-k goal.the-decreases-loop-k tie.handed_clauses = c.before.before.before.before in
-    λ x e. search (rules, serving, (gap m.before.before x (sym (costs_are m) ∙ e)).fits)
+    let p = goal.at.map-least-requires c in
+    λ x e. search (rules, serving, (gap p.After-follow-followed x (sym (costs_are p.After-map-cost) ∙ e)).fits)
 
-gaps_are : (c : lts.After-map2 tie.the-claims reads.Pre reads.Post goal.the-invariant-loop-k goal.the-decreases-loop-k tie.handed_clauses) →
-    let f = c.before.before.before.before.before.before in
+gaps_are : (c : After-map-least) →
+    let f = (goal.at.After-map-least c).After-follow-followed in
     c.map-least.result ≡ option_map (λ x. x -ℤ upper f) (whole f)
 gaps_are c =
-    let m : lts.After-map tie.the-claims reads.Pre reads.Post goal.the-invariant-loop-k goal.the-decreases-loop-k tie.handed_clauses = c.before.before.before.before in
-    let f = m.before.before in
-    let e : c.map-least.result ≡ option_map (λ x. back (back x -ℤ back (back (back (inputs f) +ℤ back (states f)) +ℤ back (pull f)))) m.map-cost.result = search rules in
-    e ∙ ap (option_map _) (costs_are m) ∙ map_same _ _ (whole f) (λ x h. (gap f x h).is)
-
-abbrev priced : lts.After-may_answer tie.the-claims reads.Pre reads.Post goal.the-invariant-loop-k goal.the-decreases-loop-k tie.handed_clauses → lts.After-map tie.the-claims reads.Pre reads.Post goal.the-invariant-loop-k goal.the-decreases-loop-k tie.handed_clauses
-priced c = c.before.before.before.before.before
-
-abbrev follows : lts.After-may_answer tie.the-claims reads.Pre reads.Post goal.the-invariant-loop-k goal.the-decreases-loop-k tie.handed_clauses → lts.After-follow tie.the-claims reads.Pre reads.Post goal.the-invariant-loop-k goal.the-decreases-loop-k tie.handed_clauses
-follows c = (priced c).before.before
+    let p = goal.at.After-map-least c in
+    let f = p.After-follow-followed in
+    let e : c.map-least.result ≡ option_map (λ x. back (back x -ℤ back (back (back (inputs f) +ℤ back (states f)) +ℤ back (pull f)))) c.map-cost.result = search rules in
+    e ∙ ap (option_map _) (costs_are p.After-map-cost) ∙ map_same _ _ (whole f) (λ x h. (gap f x h).is)
 
 pub weigh-requires : goal.weigh-requires
 weigh-requires c =
-    let f = follows c.before.before in
-    let b = round f in
-    let y = held (led (at_minimised f)) in
+    let p = goal.at.weigh-requires c in
+    let m = stepped p.After-minimise-costs in
     record {
-      legal = (legal b, (s b).requires.legal.1, y.blank, y.bounded);
-      cost_bound = rw (costs_are (priced c.before.before)) (size_whole f);
+      legal = (legal p.In-loop-k, c.requires.legal.1, m.blank, m.bounded);
+      cost_bound = rw (costs_are p.After-map-cost) (size_whole p.After-follow-followed);
     }
 
-weighed : (c : lts.After-weigh tie.the-claims reads.Pre reads.Post goal.the-invariant-loop-k goal.the-decreases-loop-k tie.handed_clauses) →
-    let f = follows c.before.before in
+weighed : (c : After-weigh) →
+    let f = (goal.at.After-weigh c).After-follow-followed in
     c.weigh.result ≡ verdict (t (round f)) (following_plan f) (padded (y (at_minimised f)))
 weighed c =
-    let f = follows c.before.before in
-    rw (costs_are (priced c.before.before), highest_is f) at c.weigh.ensures ∙ decided f
+    let p = goal.at.After-weigh c in
+    let f = p.After-follow-followed in
+    rw (costs_are p.After-map-cost, highest_is f) at c.weigh.ensures ∙ decided f
 
 pub returns-in-Some-Proved : goal.returns-in-Some-Proved
 returns-in-Some-Proved c =
-    let w = c.before.before in
-    let f = follows w.before.before in
-    let b = round f in
-    let m = at_minimised f in
+    let p = goal.at.returns-in-Some-Proved c in
+    let f = p.After-follow-followed in
+    let b = p.In-loop-k in
+    let m = p.After-minimise-costs in
     let e = c.at_end.ensures in
     let v = c.in-Some-Proved in
     let same : back v.gap ≡ v.gap = search rules in
-    let told = sym (weighed w) ∙ v.is ∙ ap Some (v.field-0-is ∙ ap Proved (sym same)) in
-    let plan = proved_held (t b) (following_plan f) f.follow-followed.new.plan (whole f) _ _ _ _ (decided f ∙ told) (kept f).held in
+    let told = sym (weighed p.After-weigh) ∙ v.is ∙ ap Some (v.field-0-is ∙ ap Proved (sym same)) in
+    let plan = proved_held (t b) (following_plan f) c.follow-followed.new.plan (whole f) _ _ _ _ (decided f ∙ told) (kept f).held in
     rw (e.0, e.1, e.2, v.gap-is)
     (record {
       t_value = whole_is (legal b) b.loop-k.invariant (early b) (begins m) _ told plan;
-      bounded = (plan.bounded, (held (led m)).bounded);
+      bounded = (plan.bounded, (stepped m).bounded);
     })
 
 pub returns-in-Some-Impossible : goal.returns-in-Some-Impossible
 returns-in-Some-Impossible c =
-    let x = c.before.before in
-    let f = follows x.before.before in
-    let b = round f in
-    let m = at_minimised f in
+    let p = goal.at.returns-in-Some-Impossible c in
+    let b = p.In-loop-k in
+    let m = p.After-minimise-costs in
     let e = c.impossible.ensures in
     let v = c.in-Some-Impossible in
-    let told = sym (weighed x) ∙ v.is ∙ ap Some v.field-0-is in
+    let told = sym (weighed p.After-weigh) ∙ v.is ∙ ap Some v.field-0-is in
     rw (e.0, e.1, e.2)
     (record {
       t_value = whole_is (legal b) b.loop-k.invariant (early b) (begins m) (replicate 120 (pos 0)) told tt;
-      bounded = (zeros-bounded 120, (held (led m)).bounded);
+      bounded = (zeros-bounded 120, (stepped m).bounded);
     })
 
 -- the round gave no answer, by its verdict or by the bound alone
-unanswered : (c : lts.Joined1 tie.the-claims reads.Pre reads.Post goal.the-invariant-loop-k goal.the-decreases-loop-k tie.handed_clauses) →
-    let f = follows c.before in
+unanswered : (c : After-next-state) →
+    let f = (goal.at.After-next-state c).After-follow-followed in
     verdict (t (round f)) (following_plan f) (padded (y (at_minimised f))) ≡ None
 unanswered c =
-    let f = follows c.before in
-    let b = round f in
+    let p = goal.at.After-next-state c in
+    let f = p.After-follow-followed in
+    let b = p.In-loop-k in
     elim c.if-may_answer.branch [
-      | then-may_answer+in-None w ↦
-          sym (weighed (record { before = record { before = c.before; if-may_answer = w.if-may_answer }; weigh = w.weigh })) ∙ w.in-None.is
+      | then-may_answer+in-None w ↦ sym (rw (costs_are p.After-map-cost, highest_is f) at w.weigh.ensures ∙ decided f) ∙ w.in-None.is
       | else-may_answer w ↦
           sym (decided f)
           ∙ neither_early (whole f) (t b).wanted (ceiling (problem_of (t b))) (lowest f) (upper f) (below f)
-          (rw (gaps_are c.before.before, wanted_is f, highest_is f, (bound f).is) at (sym c.before.may_answer.ensures ∙ w.if-may_answer.false))
+          (rw (gaps_are p.After-map-least, wanted_is f, highest_is f, (bound f).is) at (sym c.may_answer.ensures ∙ w.if-may_answer.false))
     ]
 
 pub loop-k-preserved : goal.loop-k-preserved
 loop-k-preserved c =
-    let f = follows c.before.before in
-    let b = round f in
+    let p = goal.at.loop-k-preserved c in
+    let b = p.In-loop-k in
     rw (c.next-state.ensures.0, c.next-state.ensures.1)
-    (running_next (legal b) b.loop-k.invariant (early b) (begins (at_minimised f)) (unanswered c.before) (next_held f))
+    (running_next (legal b) b.loop-k.invariant (early b) (begins p.After-minimise-costs) (unanswered p.After-next-state) (next_held p.After-follow-followed))
 
 pub returns : goal.returns
 returns c =

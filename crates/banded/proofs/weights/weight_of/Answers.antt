@@ -18,5 +18,5 @@ loop-s-preserved c =
 pub returns : goal.returns
 unfolding weights
 returns c =
-    let e : c.loop-s.s ≡ c.args.t.horizon = omega arith in
+    let e : c.loop-s.s ≡ c.args.t.now.horizon = omega arith in
     rw e at c.loop-s.invariant.2

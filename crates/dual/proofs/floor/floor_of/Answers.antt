@@ -18,7 +18,7 @@ total : (c : goal.After-offset) →
     let a = c.args in
     Formed (back c.pieces.result +ℤ back c.offset.result)
     (floor
-    (padded_problem a.horizon a.a.now a.b.now a.drift.now a.start.now a.penalty.now a.low.now a.high.now a.reference.now)
+    (padded_problem a.horizon a.a.now a.b.now a.drift.now a.start.now a.terms.now)
     (padded a.y.now))
 unfolding constant
 total c =

@@ -10,7 +10,7 @@ use Rattle.dual.proofs.floor.offset.Goals as goal
 first : (c : goal.After-started) →
     let a = c.args in
     Formed (back c.drifts.result +ℤ back c.started.result)
-    (constant (padded_problem a.horizon a.a.now [] a.drift.now a.start.now [] [] [] []) (padded a.y.now))
+    (constant (padded_problem a.horizon a.a.now [] a.drift.now a.start.now []) (padded a.y.now))
 unfolding constant
 first c =
     let d = c.drifts in
@@ -22,7 +22,7 @@ first c =
 whole : (c : goal.After-allowance) →
     let a = c.args in
     Formed (back (back c.drifts.result +ℤ back c.started.result) -ℤ back c.allowance.result)
-    (constant (padded_problem a.horizon a.a.now [] a.drift.now a.start.now [] [] [] []) (padded a.y.now)
+    (constant (padded_problem a.horizon a.a.now [] a.drift.now a.start.now []) (padded a.y.now)
     -ℤ pos 2048 *ℤ sizes 6 a.horizon (padded a.y.now))
 whole c =
     let s = c.before.before.before in

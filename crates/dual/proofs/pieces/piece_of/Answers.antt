@@ -1,136 +1,139 @@
-use Prim.Native.Nat.{◌*◌, ◌≤◌}
+use Prim.Native.Nat.{◌*◌, ◌^◌, ◌<◌, ◌≤◌}
 use mathlib.Core.Path.{◌≡◌, ◌∙◌}
 use mathlib.Core.Bool.{false}
 use native.Mathlib.Nat.{le_refl}
 use native.Mathlib.Omega.{arith}
-use lib.IntN.{pos, nat_abs, ◌-ℤ◌, ◌*ℤ◌}
-use lib.Signed.{le_z}
+use lib.IntN.{ℤ, pos, nat_abs, ◌+ℤ◌, ◌-ℤ◌, ◌*ℤ◌}
+use lib.Signed.{le_z, mag}
 use mir.Facts.{to_z-of_z}
 use Rattle.integer.specs.Order.{◌≼◌}
+use Rattle.integer.specs.Quotient.{quotient_up}
 use Rattle.integer.proofs.Order.{order}
-use Rattle.integer.proofs.Sizes.{called, size-mul, back, Formed, formed}
-use Rattle.problem.specs.Model.{Term}
+use Rattle.integer.proofs.Sizes.{called, size-mul, back, back_is, Formed, formed}
+use Rattle.problem.specs.declared.Term.{Term}
 use Rattle.problem.specs.Cost.{cost}
 use Rattle.problem.specs.Dual.{weightless, unweighted, conjugate, tilt, piece}
 use Rattle.problem.proofs.Piece.{conjugate-is}
-use Rattle.primal.specs.Padded.{term_of}
+use Rattle.primal.specs.Ranges.{Ranged}
+use Rattle.dual.specs.Slopes.{most_slope}
 use Rattle.dual.proofs.PieceSizes.{pushed, size-tested, sized, size-third, size-unweighted}
 use Rattle.dual.proofs.pieces.piece_of.Goals as goal
-use Rattle.dual.proofs.pieces.piece_of.Tie as tie
-use Rattle.dual.proofs.pieces.piece_of.Reads as reads
-use Rattle.dual.proofs.pieces.piece_of.Lts as lts
 
-abbrev term : lts.Start tie.the-claims reads.Pre reads.Post → Term
-term c = let a = c.args in term_of a.p a.low a.high a.r
+-- the numbers of a term as the code reads them
+module _ {t : Term} (g : Ranged t) where
+  penalty_is : back t.penalty ≡ t.penalty
+  penalty_is = let h = g.penalty in back_is t.penalty h (omega arith)
+
+  low_is : back t.low ≡ t.low
+  low_is = back_is t.low g.low (omega arith)
+
+  high_is : back t.high ≡ t.high
+  high_is = back_is t.high g.high (omega arith)
+
+  reference_is : back t.reference ≡ t.reference
+  reference_is = back_is t.reference g.reference (omega arith)
+
+  divisor : Formed (pos 4 *ℤ back t.penalty) (pos 4 *ℤ t.penalty)
+  divisor = let h = g.penalty in formed (rw penalty_is) (size-mul (pos 4) t.penalty (le_refl 4) h) (omega arith)
 
 -- ---- Weight 0
 
-number_is : (c : goal.After-unweighted_of) → let a = c.args in back c.unweighted_of.result ≡ unweighted a.low a.high a.s
-number_is c =
-    let f = c.ranges in
-    called c.unweighted_of.result c.unweighted_of.type_inv ∙ rw (to_z-of_z f.low, to_z-of_z f.high, to_z-of_z f.s) at c.unweighted_of.ensures
-
-linear : (c : goal.After-unweighted_of) → let a = c.args in
-    Formed (back a.s *ℤ back c.unweighted_of.result) (a.s *ℤ unweighted a.low a.high a.s)
+linear : (c : goal.After-unweighted_of) → let t = c.args.term in
+    Formed (back c.args.s *ℤ back c.unweighted_of.result) (c.args.s *ℤ unweighted t.low t.high c.args.s)
 linear c =
-    let b = c.before.before in
-    formed (rw (to_z-of_z b.ranges.s, number_is c))
-    (size-mul b.args.s (unweighted b.args.low b.args.high b.args.s) b.requires.1 (size-unweighted b.requires.0 b.args.s)) (omega arith)
-
--- ---- The three tests
-
-weighed : (c : lts.Else1 tie.the-claims reads.Pre reads.Post) → weightless c.args.p ≡ false
-weighed c = rw (to_z-of_z c.ranges.p) at c.if-p-le0.false
-
-low_is : (c : lts.After-tilt_at tie.the-claims reads.Pre reads.Post) → let b = c.before.before in back c.tilt_at.result ≡ tilt (term b) b.args.s b.args.low
-unfolding tilt
-low_is c =
-    let f = c.ranges in
-    called c.tilt_at.result c.tilt_at.type_inv ∙ rw (to_z-of_z f.p, to_z-of_z f.low, to_z-of_z f.r, to_z-of_z f.s) at c.tilt_at.ensures
-
-high_is : (c : lts.After-tilt_at2 tie.the-claims reads.Pre reads.Post) → let b = c.before.before.before.before in back c.tilt_at-2.result ≡ tilt (term b) b.args.s b.args.high
-unfolding tilt
-high_is c =
-    let f = c.ranges in
-    called c.tilt_at-2.result c.tilt_at-2.type_inv ∙ rw (to_z-of_z f.p, to_z-of_z f.high, to_z-of_z f.r, to_z-of_z f.s) at c.tilt_at-2.ensures
-
-low_left : (c : lts.Else2 tie.the-claims reads.Pre reads.Post) → let b = c.before.before.before in le_z (pos 0) (tilt (term b) b.args.s b.args.low) ≡ false
-low_left c = rw (low_is c.before) at c.if-tilt_at-ge0.false
-
--- ---- The third piece
-
-abbrev start : goal.Else-tilt_at-le0 → lts.Start tie.the-claims reads.Pre reads.Post
-start c = c.before.before.before.before.before
-
-high_left : (c : goal.Else-tilt_at-le0) → let b = start c in le_z (tilt (term b) b.args.s b.args.high) (pos 0) ≡ false
-high_left c = rw (high_is c.before) at c.if-tilt_at-le0.false
-
-one : (c : goal.Else-tilt_at-le0) → pos 1 ≼ (start c).args.p
-one c = let w = weighed c.before.before.before.before in omega (arith, order)
-
-tested : (c : goal.Else-tilt_at-le0) → nat_abs (start c).args.s ≤ 80000 * nat_abs (start c).args.p
-tested c = size-tested (start c).requires.0 (start c).args.s (low_left c.before.before) (high_left c)
-
-product : (c : lts.Start tie.the-claims reads.Pre reads.Post) → let a = c.args in Formed (back a.s *ℤ back a.r) (a.s *ℤ a.r)
-product c = pushed c.args.s c.args.r c.requires.1 c.requires.0.reference
-
-divisor : (c : lts.Start tie.the-claims reads.Pre reads.Post) → Formed (pos 4 *ℤ back c.args.p) (pos 4 *ℤ c.args.p)
-divisor c = formed (rw (to_z-of_z c.ranges.p)) (size-mul (pos 4) c.args.p (le_refl 4) c.requires.0.penalty) (omega arith)
-
-quotient_is : (c : goal.After-square_quotient) → let a = (start c.before).args in back c.square_quotient.result ≡ conjugate a.p a.s
-quotient_is c =
-    let b = start c.before in
-    rw (conjugate-is b.args.p b.args.s (one c.before))
-    (called c.square_quotient.result c.square_quotient.type_inv ∙ rw ((divisor b).is, to_z-of_z b.ranges.s) at c.square_quotient.ensures)
-
-third : (c : goal.After-square_quotient) →
-    let a = (start c.before).args in
-    Formed (back (back a.s *ℤ back a.r) -ℤ back c.square_quotient.result) (a.s *ℤ a.r -ℤ conjugate a.p a.s)
-third c =
-    let b = start c.before in
-    let h = b.requires.0.penalty in
-    formed (rw ((product b).is, quotient_is c)) (size-third b.requires.0 b.args.s (one c.before) (tested c.before)) (omega arith)
-
--- ---- The needs
+    let g = c.requires.0 in
+    let s = c.args.s in
+    let number = called c.unweighted_of.result c.unweighted_of.type_inv ∙ rw (low_is g, high_is g, to_z-of_z c.ranges.s) at c.unweighted_of.ensures in
+    formed (rw (to_z-of_z c.ranges.s, number)) (size-mul s (unweighted c.args.term.low c.args.term.high s) c.requires.1 (size-unweighted g s)) (omega arith)
 
 pub overflow_mul-result : goal.overflow_mul-result
 overflow_mul-result c = (linear c).fits
 
-pub returns-then-p-le0 : goal.returns-then-p-le0
+pub returns-then-term-le0 : goal.returns-then-term-le0
 unfolding piece
-returns-then-p-le0 c =
-    let test = rw (to_z-of_z c.ranges.p) at c.if-p-le0.true in
+returns-then-term-le0 c =
+    let test = rw (penalty_is c.requires.0) at c.if-term-le0.true in
     (linear c).is ∙ rw test
 
+-- ---- The three tests, of a tilt as `tilt_at` gives it
+
+module _ {t : Term} (g : Ranged t) {s : ℤ} (s_is : back s ≡ s) where
+  weighed : le_z (back t.penalty) (pos 0) ≡ false → weightless t.penalty ≡ false
+  weighed e = rw (penalty_is g) at e
+
+  tilt_is : {v r : ℤ} → back v ≡ v → mag r < 2 ^ 63 → r ≡ pos 2 *ℤ back t.penalty *ℤ (back v -ℤ back t.reference) +ℤ back s → back r ≡ tilt t s v
+  unfolding tilt
+  tilt_is {v} {r} e f told = called r f ∙ rw (penalty_is g, e, reference_is g, s_is) at told
+
+  edge_is : {v r : ℤ} → back v ≡ v → mag r < 2 ^ 63
+      → r ≡ back t.penalty *ℤ ((back v -ℤ back t.reference) *ℤ (back v -ℤ back t.reference)) +ℤ back s *ℤ back v
+      → back r ≡ cost t v +ℤ s *ℤ v
+  unfolding cost
+  edge_is {v} {r} e f told = called r f ∙ rw (penalty_is g, e, reference_is g, s_is) at told
+
 pub returns-then-tilt_at-ge0 : goal.returns-then-tilt_at-ge0
-unfolding piece cost
+unfolding piece
 returns-then-tilt_at-ge0 c =
-    let f = c.ranges in
-    let test = rw (low_is c.before.before) at c.if-tilt_at-ge0.true in
-    rw (called c.edge.result c.edge.type_inv, c.edge.ensures, to_z-of_z f.p, to_z-of_z f.low, to_z-of_z f.r, to_z-of_z f.s, weighed c.before.before.before, test)
+    let g = c.requires.0 in
+    let i = to_z-of_z c.ranges.s in
+    let low = rw (tilt_is g i (low_is g) c.tilt_at.type_inv c.tilt_at.ensures) at c.if-tilt_at-ge0.true in
+    edge_is g i (low_is g) c.edge.type_inv c.edge.ensures ∙ rw (weighed g i c.if-term-le0.false, low)
 
 pub returns-then-tilt_at-le0 : goal.returns-then-tilt_at-le0
-unfolding piece cost
+unfolding piece
 returns-then-tilt_at-le0 c =
-    let f = c.ranges in
-    let first = low_left c.before.before.before in
-    let test = rw (high_is c.before.before) at c.if-tilt_at-le0.true in
-    rw (called c.edge-then-tilt_at-le0.result c.edge-then-tilt_at-le0.type_inv, c.edge-then-tilt_at-le0.ensures, to_z-of_z f.p, to_z-of_z f.high, to_z-of_z f.r, to_z-of_z f.s, weighed c.before.before.before.before.before, first, test)
+    let g = c.requires.0 in
+    let i = to_z-of_z c.ranges.s in
+    let e = c.edge-then-tilt_at-le0 in
+    let low = rw (tilt_is g i (low_is g) c.tilt_at.type_inv c.tilt_at.ensures) at c.if-tilt_at-ge0.false in
+    let high = rw (tilt_is g i (high_is g) c.tilt_at-2.type_inv c.tilt_at-2.ensures) at c.if-tilt_at-le0.true in
+    edge_is g i (high_is g) e.type_inv e.ensures ∙ rw (weighed g i c.if-term-le0.false, low, high)
+
+-- ---- The third piece
+
+module _ {t : Term} (g : Ranged t) {s : ℤ} (h : nat_abs s ≤ most_slope) (s_is : back s ≡ s) (w : weightless t.penalty ≡ false)
+    (low : le_z (pos 0) (tilt t s t.low) ≡ false) (high : le_z (tilt t s t.high) (pos 0) ≡ false) where
+  one : pos 1 ≼ t.penalty
+  one = omega (arith, order)
+
+  needed : (nat_abs (back s) < 2 ^ 37) × (pos 16384 ≼ back (pos 4 *ℤ back t.penalty)) × (back (pos 4 *ℤ back t.penalty) ≼ pos 4177920)
+  needed = rw ((divisor g).is, s_is) (sized g s one (size-tested g s low high))
+
+  third : {q : ℤ} → mag q < 2 ^ 63 → q ≡ quotient_up (back s *ℤ back s) (back (pos 4 *ℤ back t.penalty)) →
+      Formed (back (back s *ℤ back t.reference) -ℤ back q) (s *ℤ t.reference -ℤ conjugate t.penalty s)
+  third {q} f told =
+      let k = g.penalty in
+      let quotient : back q ≡ conjugate t.penalty s = rw (conjugate-is t.penalty s one) (called q f ∙ rw ((divisor g).is, s_is) at told) in
+      formed (rw ((pushed s t.reference h g.reference).is, quotient)) (size-third g s one (size-tested g s low high)) (omega arith)
 
 pub overflow_mul-result-2 : goal.overflow_mul-result-2
-overflow_mul-result-2 c = (product (start c)).fits
+overflow_mul-result-2 c = (pushed c.args.s c.args.term.reference c.requires.1 c.requires.0.reference).fits
 
-pub overflow_mul-p : goal.overflow_mul-p
-overflow_mul-p c = (divisor (start c)).fits
+pub overflow_mul-term : goal.overflow_mul-term
+overflow_mul-term c = (divisor c.requires.0).fits
 
 pub square_quotient-requires : goal.square_quotient-requires
 square_quotient-requires c =
-    let b = start c in
-    rw ((divisor b).is, to_z-of_z b.ranges.s) (sized b.requires.0 b.args.s (one c) (tested c))
+    let g = c.requires.0 in
+    let i = to_z-of_z c.ranges.s in
+    needed g c.requires.1 i (weighed g i c.if-term-le0.false)
+    (rw (tilt_is g i (low_is g) c.tilt_at.type_inv c.tilt_at.ensures) at c.if-tilt_at-ge0.false)
+    (rw (tilt_is g i (high_is g) c.tilt_at-2.type_inv c.tilt_at-2.ensures) at c.if-tilt_at-le0.false)
+
+total : (c : goal.After-square_quotient) →
+    let t = c.args.term in
+    Formed (back (back c.args.s *ℤ back t.reference) -ℤ back c.square_quotient.result) (piece t c.args.s)
+unfolding piece
+total c =
+    let g = c.requires.0 in
+    let i = to_z-of_z c.ranges.s in
+    let w = weighed g i c.if-term-le0.false in
+    let low = rw (tilt_is g i (low_is g) c.tilt_at.type_inv c.tilt_at.ensures) at c.if-tilt_at-ge0.false in
+    let high = rw (tilt_is g i (high_is g) c.tilt_at-2.type_inv c.tilt_at-2.ensures) at c.if-tilt_at-le0.false in
+    rw (w, low, high) (third g c.requires.1 i w low high c.square_quotient.type_inv c.square_quotient.ensures)
 
 pub overflow_sub-result : goal.overflow_sub-result
-overflow_sub-result c = (third c).fits
+overflow_sub-result c = (total c).fits
 
 pub returns : goal.returns
-unfolding piece
-returns c = (third c).is ∙ rw (weighed c.before.before.before.before.before, low_left c.before.before.before, high_left c.before)
+returns c = (total c).is

@@ -12,11 +12,11 @@ pub total-requires-clause-small : goal.total-requires-clause-small
 total-requires-clause-small c p r l told =
     let a = c.args in
     let h = c.requires in
-    let is : r ≡ piece (term_at a.penalty.now a.low.now a.high.now a.reference.now p) (at a.s.now p) = search rules in
+    let is : r ≡ piece (term_at a.terms.now p) (at a.s.now p) = search rules in
     rw is (omega (arith, size-piece (h.1.each p (omega arith)) (at a.s.now p) (h.2.each p)))
 
 pub returns : goal.returns
 returns c =
     let a = c.args in
     called c.total.result c.total.type_inv
-    ∙ c.total.ensures (λ p. piece (term_at a.penalty.now a.low.now a.high.now a.reference.now p) (at a.s.now p)) (λ p r l told. search rules)
+    ∙ c.total.ensures (λ p. piece (term_at a.terms.now p) (at a.s.now p)) (λ p r l told. search rules)

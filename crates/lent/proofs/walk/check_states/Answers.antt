@@ -10,6 +10,7 @@ use Rattle.integer.proofs.Places.{stretch_none, stretch_store, stretch_bounded}
 use Rattle.commands.specs.Ranges.{most_number}
 use Rattle.primal.proofs.ModelSizes.{model_at, size_model}
 use Rattle.primal.proofs.HeldSteps.{model_kept}
+use Rattle.primal.specs.Padded.{term_at}
 use Rattle.lent.specs.Checks.{state_check}
 use Rattle.lent.proofs.Steps.{first-none, first-passed, first-failed, first-each, state-size, state_check_at}
 use Rattle.lent.proofs.walk.check_states.Goals as goal
@@ -28,7 +29,7 @@ bounded c =
     (λ j h. let q = 10 * a.k + (4 + j) in
     let e = first-each l.i _ l.invariant.0 j h in
     let g = p.legal.1.tables.each q (omega arith) in
-    state-size a.k j _ (at a.terms.now.low q) (at a.terms.now.high q) (at a.plan.now (a.from + j)) g.low g.high e)
+    state-size a.k j _ (term_at a.terms.now q).low (term_at a.terms.now q).high (at a.plan.now (a.from + j)) g.low g.high e)
     l.invariant.1
 
 pub model_sum-s-requires : goal.model_sum-s-requires
@@ -62,12 +63,12 @@ check_state-requires c =
 checked : (c : After-check_state) →
     let a = c.args in
     let t = a.t.now in
-    state_check_at t.a t.b t.drift t.start a.terms.now.low a.terms.now.high a.plan.now a.v.now a.from a.k c.loop-i.i ≡ c.check_state.result
+    state_check_at t.a t.b t.drift t.start a.terms.now a.plan.now a.v.now a.from a.k c.loop-i.i ≡ c.check_state.result
 checked c =
     let a = c.args in
     let q = 10 * a.k + (4 + c.loop-i.i) in
     let e : c.check_state.result
-    ≡ state_check a.k c.loop-i.i (back c.model_sum-s.result) (at a.terms.now.low q) (at a.terms.now.high q) (at a.plan.now (a.from + c.loop-i.i)) = search rules in
+    ≡ state_check a.k c.loop-i.i (back c.model_sum-s.result) (term_at a.terms.now q).low (term_at a.terms.now q).high (at a.plan.now (a.from + c.loop-i.i)) = search rules in
     sym (rw (model_is (goal.at.After-check_state c).After-model_sum-s) at e)
 
 pub returns-in_err-check_state-clause-value : goal.returns-in_err-check_state-clause-value

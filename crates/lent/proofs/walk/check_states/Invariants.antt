@@ -8,5 +8,5 @@ use Rattle.lent.proofs.walk.check_states.Given as goal
 
 abbrev pub invariant-loop-i : goal.invariant-loop-i
 invariant-loop-i l =
-    (first l.i (state_check_at l.t.a l.t.b l.t.drift l.t.start l.terms.low l.terms.high l.plan l.initial.v l.from l.k) ≡ Ok tt)
+    (first l.i (state_check_at l.t.a l.t.b l.t.drift l.t.start l.terms l.plan l.initial.v l.from l.k) ≡ Ok tt)
     × Stretch (10 * l.k + 4) l.i (λ i. at l.plan (l.from + i)) l.initial.v l.v

@@ -25,7 +25,7 @@ returns-in_err-check_inputs-clause-check_value c =
     e ∙ sym (step-failed r.legal.0 r.legal.1 (omega arith) c.args.plan.now (sym c.check_inputs.ensures.value ∙ c.in_err-check_inputs.was))
 
 -- the inputs have passed, and stand in their places
-passed : (c : In_ok-check_inputs) → let a = c.args in inputs_check a.t.now a.terms.now.low a.terms.now.high a.plan.now a.k ≡ Ok tt
+passed : (c : In_ok-check_inputs) → let a = c.args in inputs_check a.t.now a.terms.now a.plan.now a.k ≡ Ok tt
 passed c = sym c.check_inputs.ensures.value ∙ c.in_ok-check_inputs.was
 
 filled : (c : In_ok-check_inputs) →
@@ -56,7 +56,7 @@ returns c =
     let a = c.args in
     let e = c.check_states.ensures in
     record {
-      check_value = ◌∙◌ {b = states_check a.t.now a.terms.now.low a.terms.now.high a.plan.now c.check_inputs.new.v a.k} e.value
+      check_value = ◌∙◌ {b = states_check a.t.now a.terms.now a.plan.now c.check_inputs.new.v a.k} e.value
           (sym (step-states legal terms (early s) a.plan.now held (passed i) (filled i)));
       held_when_passed = held_where legal terms (early s) a.plan.now held (passed i) (filled i) _ _ e.value e.filled_when_passed;
     }

@@ -8,7 +8,7 @@ use mir.Val.{to_z}
 use mir.Facts.{to_z-of_z, to_z_pos}
 use Rattle.integer.specs.Places.{at}
 use Rattle.integer.proofs.Sizes.{size-add, size-sub, fits_by, casts, called, back, element_is, Formed, formed}
-use Rattle.problem.specs.Model.{Term}
+use Rattle.problem.specs.declared.Term.{Term}
 use Rattle.primal.specs.Ranges.{most_penalty, Ranged}
 use Rattle.lookup.specs.Table.{term_in, centre, span, inverse}
 use Rattle.lookup.proofs.RowSizes.{scaled, product, size-centre, inverse_nonneg, size-inverse, size-span, scaled_nonneg, size-scaled, size_product}

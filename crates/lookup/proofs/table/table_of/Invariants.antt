@@ -6,4 +6,4 @@ use Rattle.lookup.specs.Table.{row}
 use Rattle.lookup.proofs.table.table_of.Given as goal
 
 abbrev pub invariant-loop-p : goal.invariant-loop-p
-invariant-loop-p l = (length l.table ≡ 840) × Steps 7 l.p (λ q. at (row (term_at l.penalty l.low l.high l.reference q))) l.table
+invariant-loop-p l = (length l.table ≡ 840) × Steps 7 l.p (λ q. at (row (term_at l.terms q))) l.table

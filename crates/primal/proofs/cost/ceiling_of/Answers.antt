@@ -11,7 +11,7 @@ use Rattle.primal.proofs.cost.ceiling_of.Goals as goal
 pub total-requires-clause-small : goal.total-requires-clause-small
 total-requires-clause-small c p r l told =
     let a = c.args in
-    let is : r ≡ most (term_at a.penalty.now a.low.now a.high.now a.reference.now p) = search rules in
+    let is : r ≡ most (term_at a.terms.now p) = search rules in
     rw is (omega (arith, size-most (c.requires.1.each p (omega arith))))
 
 pub returns : goal.returns
@@ -19,5 +19,5 @@ unfolding ceiling
 returns c =
     let a = c.args in
     called c.total.result c.total.type_inv
-    ∙ c.total.ensures (λ p. most (term_at a.penalty.now a.low.now a.high.now a.reference.now p)) (λ p r l told. search rules)
+    ∙ c.total.ensures (λ p. most (term_at a.terms.now p)) (λ p r l told. search rules)
     ∙ total_places a.horizon _

@@ -7,7 +7,7 @@ use lib.Signed.{le_z}
 use mir.Facts.{to_z-of_z}
 use Rattle.integer.proofs.Sizes.{called, size-sub, back, back_is, Formed, formed}
 use Rattle.commands.specs.Ranges.{most_number}
-use Rattle.problem.specs.Model.{Term}
+use Rattle.problem.specs.declared.Term.{Term}
 use Rattle.problem.specs.Dual.{tilt}
 use Rattle.primal.specs.Padded.{term_of}
 use Rattle.ranges.specs.Range.{centre}

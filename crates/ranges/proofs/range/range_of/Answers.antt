@@ -9,7 +9,7 @@ use Rattle.integer.proofs.Parts.{times}
 use Rattle.integer.proofs.Order.{order}
 use Rattle.integer.proofs.Sizes.{fitting, fit, called, size-add, size-sub, back, Formed, formed}
 use Rattle.integer.proofs.Tests.{not_at-most}
-use Rattle.problem.specs.Model.{Term}
+use Rattle.problem.specs.declared.Term.{Term}
 use Rattle.primal.specs.Padded.{term_of}
 use Rattle.ranges.specs.Range.{centre, reach, lowest, highest, range_of}
 use Rattle.ranges.proofs.Ends.{range_promise}

@@ -7,25 +7,39 @@ mod weights;
 
 ghost use Rattle.std.specs.Prelude.{ℕ, ◌≤◌, ◌≡◌};
 ghost use Rattle.tape.specs.Legal.{Legal};
+ghost use Rattle.problem.specs.Model.{problem_of};
 ghost use Rattle.banded.specs.Elimination.{Matrix, usable_pivots};
+ghost use Rattle.banded.specs.Step.{band_usable};
 ghost use Rattle.banded.specs.Rows.{KeptRows, TapeRows, Factored};
 
 use crate::rows::{Row, eliminated_row, is_usable, no_rows, row_count};
 use crate::weights::weights_row;
 use tape::Tape;
 
-// A tape's eliminated rows. They do not depend on the residuals.
-pub fn eliminate(t: &Tape) -> [Row; 72]
+// A tape's eliminated rows, and whether all their pivots are finite and above 0. No Option: the rows are
+// promised with any pivots.
+#[derive(Clone, Copy)]
+pub struct Eliminated {
+    pub usable: bool,
+    pub rows: [Row; 72],
+}
+
+// The elimination, which does not depend on the residuals.
+pub fn eliminate(t: &Tape) -> Eliminated
     requires { Legal t.now }
-    ensures { TapeRows t.now result }
+    ensures { (result.usable ≡ band_usable (problem_of t.now)) × TapeRows t.now result.rows }
 {
     let band = 2 * t.n - 1;
+    let count = row_count(t.n, t.horizon);
     let mut rows = no_rows();
-    for p in 0..row_count(t.n, t.horizon) {
+    for p in 0..count {
         let x = weights_row(t, p, band);
         rows[p] = eliminated_row(&rows, x, p, band);
     }
-    rows
+    Eliminated {
+        usable: are_usable(&rows, count),
+        rows: rows,
+    }
 }
 
 // Whether all pivots of the first rows are finite and above 0.
@@ -46,9 +60,9 @@ pub fn factored_of(t: &Tape) -> Option<[Row; 72]>
     ensures { Factored t.now result }
 {
     if t.banded {
-        let rows = eliminate(t);
-        if are_usable(&rows, row_count(t.n, t.horizon)) {
-            return Some(rows);
+        let eliminated = eliminate(t);
+        if eliminated.usable {
+            return Some(eliminated.rows);
         }
     }
     None

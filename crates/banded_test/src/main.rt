@@ -20,10 +20,10 @@ fn show(rt: &impl Print, case: Case) -> io::Result<()> {
     let digits = case.digits / 2;
     let numbers = case.first;
     let counts = case.counts;
-    match case.word() {
-        b"pivot" => show_pivot(rt, float_at(&bytes, 0)),
-        b"next" => show_next(rt, float_at(&bytes, 0), numbers[0]),
-        b"correction" => show_correction(rt, &bytes, digits, &numbers, counts[0]),
+    match case.kind {
+        Some(b'v') => show_pivot(rt, float_at(&bytes, 0)),
+        Some(b'x') => show_next(rt, float_at(&bytes, 0), numbers[0]),
+        Some(b'i') => show_correction(rt, &bytes, digits, &numbers, counts[0]),
         _ => Ok(()),
     }
 }

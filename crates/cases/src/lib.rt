@@ -11,12 +11,12 @@ use std::io;
 use std::io::Read;
 use tape::refusal::{Carried, Refusal, carries, number};
 
-// A case as far as it has been read, character by character. Small letters are the line's word, of which
-// the first 10 are kept. Digits of a tape, or of floats, are 0 to 9 and A to F; numbers are decimal.
+// A case as far as it has been read, character by character. The kind is the last such letter of the
+// line's word; words of two programs may share theirs, as `read` and `ranges` do, so that it stays a
+// letter. Digits of a tape, or of floats, are 0 to 9 and A to F; numbers are decimal.
 #[derive(Clone, Copy)]
 pub struct Case {
-    letters: usize,
-    text: [u8; 10],
+    pub kind: Option<u8>,
     pub comment: bool,
     pub field: usize,
     pub digits: usize,
@@ -35,8 +35,7 @@ impl Case {
         let counts = [0usize; 2];
         let none = [0i32; 160];
         Case {
-            letters: 0,
-            text: [0u8; 10],
+            kind: None,
             comment: false,
             field: 0,
             digits: 0,
@@ -61,7 +60,10 @@ impl Case {
                 case.comment = true;
                 case
             }
-            b'a'..=b'z' => case.with_letter(c),
+            b'r' | b'p' | b'b' | b'j' | b'h' | b'v' | b'y' | b'm' | b'c' | b'i' | b'x' => {
+                case.kind = Some(c);
+                case
+            }
             b'/' => case.closed().moved(),
             b' ' => case.closed(),
             b'-' => {
@@ -72,20 +74,6 @@ impl Case {
             b'A'..=b'F' => case.digit(c - b'A' + 10),
             _ => case,
         }
-    }
-
-    // The line's word.
-    pub fn word(&self) -> &[u8] {
-        self.text.get(..self.letters).unwrap_or_default()
-    }
-
-    fn with_letter(mut self, c: u8) -> Case {
-        let letters = self.letters;
-        if letters < 10 {
-            self.text[letters] = c;
-            self.letters = letters + 1;
-        }
-        self
     }
 
     fn moved(mut self) -> Case {

@@ -12,9 +12,9 @@ fn main(rt: HostRuntime) -> io::Result<()> {
 }
 
 fn show(rt: &impl Print, case: Case) -> io::Result<()> {
-    match case.word() {
-        b"entry" => show_entry(rt, float_at(&case.tape, 0)),
-        b"model" => show_model(rt, &case.tape, &case.first),
+    match case.kind {
+        Some(b'y') => show_entry(rt, float_at(&case.tape, 0)),
+        Some(b'm') => show_model(rt, &case.tape, &case.first),
         _ => Ok(()),
     }
 }

@@ -12,8 +12,8 @@ pub fn unsigned_at<const N: usize>(s: &[u8], at: usize) -> usize
     ensures { (result ≡ unsigned (operand N s.now at)) × (result < 256 ^ N) }
 {
     let mut number: usize = 0;
-    for i in (at..at + N).rev() {
-        number = 256 * number + s[i] as usize;
+    for i in (0..N).rev() {
+        number = 256 * number + s[at + i] as usize;
     }
     number
 }

@@ -17,10 +17,10 @@ fn judge(rt: &impl Print, case: Case) -> io::Result<()> {
     let first = case.first;
     let second = case.second;
     let counts = case.counts;
-    match case.word() {
-        b"judge" => show_judged(rt, &tape, bytes, &first, counts[0], &second, counts[1]),
-        b"show" => show_shown(rt, &tape, bytes, &first, counts[0]),
-        b"ranges" => show_ranges(rt, &tape, bytes, &first, counts[0], &second, counts[1]),
+    match case.kind {
+        Some(b'j') => show_judged(rt, &tape, bytes, &first, counts[0], &second, counts[1]),
+        Some(b'h') => show_shown(rt, &tape, bytes, &first, counts[0]),
+        Some(b'r') => show_ranges(rt, &tape, bytes, &first, counts[0], &second, counts[1]),
         _ => Ok(()),
     }
 }

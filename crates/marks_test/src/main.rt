@@ -14,9 +14,9 @@ fn main(rt: HostRuntime) -> io::Result<()> {
 }
 
 fn show(rt: &impl Print, case: Case) -> io::Result<()> {
-    match case.word() {
-        b"count" => show_count(rt, &case.tape),
-        b"missing" => show_missing(rt, &case.tape, &case.first),
+    match case.kind {
+        Some(b'c') => show_count(rt, &case.tape),
+        Some(b'i') => show_missing(rt, &case.tape, &case.first),
         _ => Ok(()),
     }
 }

@@ -18,9 +18,9 @@ fn put(out: &mut [i64], first: usize, from: &[i64])
     out[first..first + from.len()].copy_from_slice(from);
 }
 
-pub fn numbers_of(t: Tape) -> [i64; 118]
-    requires { Legal t }
-    ensures { result ≡ read_numbers t }
+pub fn numbers_of(t: &Tape) -> [i64; 118]
+    requires { Legal t.now }
+    ensures { result ≡ read_numbers t.now }
 {
     let mut out = [0i64; 118];
     let sizes = [t.n as i64, t.m as i64, t.horizon as i64];

@@ -30,7 +30,11 @@ pub extern "C" fn fibergravel_read(tape: &[u8], out: &mut [i64; 118]) -> u64
     ensures value { result ≡ read_code (reading tape.now).answer }
     ensures out_after { out.new ≡ read_left (reading tape.now).answer (reading tape.now).tape out.old }
 {
-    answer(read(tape).map(numbers_of), out)
+    // `map` would take the tape by value, and hold it on the stack once more.
+    match read(tape) {
+        Ok(t) => answer(Ok(numbers_of(&t)), out),
+        Err(why) => answer(Err(why), out),
+    }
 }
 
 // Reads the references that a tape gives by step. `out` then holds them and their marks.

@@ -38,8 +38,8 @@ pub fn judge_ranges(tape: &[u8], plan: &[i32], multipliers: &[i32]) -> Result<Ra
     ensures value { result ≡ ranges_of tape.now plan.now multipliers.now }
     ensures bounding { Bounding result (reading tape.now).tape plan.now multipliers.now }
 {
-    let t = read(tape)?;
     let gap = judge_plan(tape, plan, multipliers)?;
+    let t = read(tape)?;
     Ok(first_ranges(&t, multipliers, gap))
 }
 

@@ -49,11 +49,11 @@ costed None inputs f whole = record { same = f.same; held = tt; cost = tt }
 costed (Some s) inputs f whole = record { same = f.same; held = f.held; cost = ap (λ (z : ℤ). inputs +ℤ z) f.cost ∙ whole }
 
 -- the cost counts only where the candidate is not dropped
-pub verdict-is : {t : Tape} {v : Plan} {l : List ℤ} (k : Option ℤ) (y : ℕ → ℕ → ℤ) → Costed t v l k →
+pub verdict-is : (t : Tape) (v : Plan) (k : Option ℤ) (y : ℕ → ℕ → ℤ) → is_none k ≡ dropped (problem_of t) v → IfSome k (λ c. c ≡ plan_cost (problem_of t) v) →
     verdict_by (option_map (λ c. c -ℤ floor (problem_of t) y) k) t.wanted (ceiling (problem_of t)) (floor (problem_of t) y) ≡ verdict t v y
 unfolding verdict verdict_by
-verdict-is None y c = rw (sym c.same)
-verdict-is (Some k) y c = rw (sym c.same, c.cost)
+verdict-is t v None y e c = rw (sym e)
+verdict-is t v (Some k) y e c = rw (sym e, c)
 
 both_false : (a b : Bool) → a || b ≡ false → (a ≡ false) × (b ≡ false)
 both_false true b e = absurd (true≢false e)

@@ -14,8 +14,8 @@ fn lend(rt: &impl Print, case: Case) -> io::Result<()> {
     let counts = case.counts;
     let mut plan = case.first;
     let mut multipliers = case.second;
-    match case.word() {
-        b"solve" => lend_parts(
+    match case.kind {
+        Some(b'v') => lend_parts(
             rt,
             &tape,
             case.digits / 2,

@@ -10,28 +10,27 @@ fn main(rt: HostRuntime) -> io::Result<()> {
 }
 
 fn show(rt: &impl Print, case: Case) -> io::Result<()> {
-    let word = case.word();
-    match word {
-        b"read" | b"steps" | b"banded" => show_reading(rt, word, &case.tape, case.digits / 2),
+    match case.kind {
+        Some(kind @ (b'r' | b'p' | b'b')) => show_reading(rt, kind, &case.tape, case.digits / 2),
         _ => Ok(()),
     }
 }
 
-fn show_reading(rt: &impl Print, word: &[u8], tape: &[u8], bytes: usize) -> io::Result<()> {
+fn show_reading(rt: &impl Print, kind: u8, tape: &[u8], bytes: usize) -> io::Result<()> {
     if tape.len() < bytes {
         return Ok(());
     }
     match read(&tape[..bytes]) {
-        Ok(t) => show_numbers(rt, word, &t)?,
+        Ok(t) => show_numbers(rt, kind, &t)?,
         Err(why) => refused(rt, why)?,
     }
     print::end(rt)
 }
 
-fn show_numbers(rt: &impl Print, word: &[u8], t: &Tape) -> io::Result<()> {
-    match word {
-        b"steps" => show_curves(rt, &t.curves),
-        b"banded" => show_step(rt, t.banded),
+fn show_numbers(rt: &impl Print, kind: u8, t: &Tape) -> io::Result<()> {
+    match kind {
+        b'p' => show_curves(rt, &t.curves),
+        b'b' => show_step(rt, t.banded),
         _ => show_tape(rt, t),
     }
 }

@@ -18,6 +18,7 @@ loop-p-preserved c =
 pub returns : goal.returns
 returns c =
     let l = c.loop-p in
-    let n = c.row_count-p-end in
+    let n = c.row_count-count in
     let e : l.p ≡ n.result = omega arith in
-    rw (e, n.ensures.0) at l.invariant.1
+    let rows = rw e at l.invariant.1 in
+    (rw n.ensures.0 at (c.are_usable.ensures _ _ rows), rw n.ensures.0 at rows)

@@ -12,7 +12,7 @@ use Rattle.numbers.proofs.numbers_of.Goals as goal
 
 pub returns : goal.returns
 returns c =
-    let t = c.args.t in
+    let t = c.args.t.now in
     let gain : SFits w64 t.gain = omega (arith, fitting, c.requires.gain) in
     let wanted : SFits w64 t.wanted = omega (arith, fitting, c.requires.wanted) in
     let f1 = filled_more 0 3 {new = c.put.new.out} (pos t.n ∷ pos t.m ∷ pos t.horizon ∷ []) refl (filled_none 118 {out = replicate 118 (pos 0)} (length-replicate 118 (pos 0)))

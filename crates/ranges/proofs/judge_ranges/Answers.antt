@@ -18,28 +18,27 @@ use Rattle.ranges.specs.Ranges.{ranges_of}
 use Rattle.ranges.proofs.Duties.{ranges_promise}
 use Rattle.ranges.proofs.EndSizes.{wanted-size}
 use Rattle.ranges.proofs.judge_ranges.Goals as goal
-use Rattle.ranges.proofs.judge_ranges.Goals.{In_ok-gap}
-
-pub returns-in_err-t : goal.returns-in_err-t
-unfolding ranges_of judged
-returns-in_err-t c =
-    let a = c.args in
-    let e : c.from_residual.result ≡ Err c.in_err-t.field-0.0 = search rules in
-    let p = ranges_promise a.tape.now a.plan.now a.multipliers.now (bytes_of c.type_inv.tape) {r = c.from_residual.result}
-    (rw (told_err (reading a.tape.now) (sym c.read.ensures ∙ c.in_err-t.was)) e) in
-    record { value = p.0; bounding = p.1 }
+use Rattle.ranges.proofs.judge_ranges.Goals.{In_ok-t}
 
 pub returns-in_err-gap : goal.returns-in_err-gap
 unfolding ranges_of
 returns-in_err-gap c =
     let a = c.args in
-    let e : c.from_residual-in_err-gap.result ≡ Err c.in_err-gap.field-0.0 = search rules in
-    let p = ranges_promise a.tape.now a.plan.now a.multipliers.now (bytes_of c.type_inv.tape) {r = c.from_residual-in_err-gap.result}
+    let e : c.from_residual.result ≡ Err c.in_err-gap.field-0.0 = search rules in
+    let p = ranges_promise a.tape.now a.plan.now a.multipliers.now (bytes_of c.type_inv.tape) {r = c.from_residual.result}
     (rw (sym c.judge_plan.ensures.value ∙ c.in_err-gap.was) e) in
     record { value = p.0; bounding = p.1 }
 
+-- a tape on which a plan was accepted is not refused
+pub returns-in_err-t : goal.returns-in_err-t
+unfolding ranges_of judged
+returns-in_err-t c =
+    let r = told_err (reading c.args.tape.now) (sym c.read.ensures ∙ c.in_err-t.was) in
+    let refused = rw r at (sym c.judge_plan.ensures.value ∙ c.in_ok-gap.was) in
+    search rules
+
 -- the gap that judging gave, from 0 to the most that a tape wants
-module _ (c : In_ok-gap) where
+module _ (c : In_ok-t) where
   abbrev s : List ℕ
   s = c.args.tape.now
 
@@ -66,7 +65,7 @@ module _ (c : In_ok-gap) where
 
 pub first_ranges-requires : goal.first_ranges-requires
 first_ranges-requires c =
-    let i = (goal.at.first_ranges-requires c).In_ok-gap in
+    let i = (goal.at.first_ranges-requires c).In_ok-t in
     let g = grant i in
     let t = tape_is i in
     rw (gap_back i)
@@ -79,7 +78,7 @@ pub returns : goal.returns
 unfolding ranges_of
 returns c =
     let a = c.args in
-    let i = (goal.at.returns c).In_ok-gap in
+    let i = (goal.at.returns c).In_ok-t in
     let p = ranges_promise a.tape.now a.plan.now a.multipliers.now (bytes_of c.type_inv.tape) {r = Ok c.first_ranges.result}
     (rw (judged_gap i, tape_is i) (ap Ok (rw (gap_back i) at c.first_ranges.ensures))) in
     record { value = p.0; bounding = p.1 }

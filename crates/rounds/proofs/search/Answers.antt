@@ -254,7 +254,7 @@ module _ (c : After-follow-followed) where
 
   decided : verdict_by (option_map (λ x. x -ℤ lowest) whole) (t round).wanted (ceiling (problem_of (t round))) lowest
       ≡ verdict (t round) following_plan (padded (y at_minimised))
-  decided = verdict-is whole (padded (y at_minimised)) kept
+  decided = verdict-is (t round) following_plan whole (padded (y at_minimised)) kept.same kept.cost
 
   below : lowest ≼ upper
   below =

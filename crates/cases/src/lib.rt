@@ -7,23 +7,28 @@
 
 pub mod floats;
 
+ghost use Rattle.std.specs.Prelude.{◌≡◌, take};
+
 use std::io;
 use std::io::Read;
 use tape::refusal::{Carried, Refusal, carries, number};
 
 // A case as far as it has been read, character by character. The kind is the last such letter of the
 // line's word; words of two programs may share theirs, as `read` and `ranges` do, so that it stays a
-// letter. Digits of a tape, or of floats, are 0 to 9 and A to F; numbers are decimal.
+// letter. Small letters are the line's word, of which the first 10 are kept. Digits of a tape, or of
+// floats, are 0 to 9 and A to F; numbers are decimal.
 #[derive(Clone, Copy)]
 pub struct Case {
     pub kind: Option<u8>,
     pub comment: bool,
+    pub negative: bool,
+    pub open: bool,
+    pub letters: u8,
+    pub text: [u8; 10],
     pub field: usize,
     pub digits: usize,
     pub tape: [u8; 1536],
     pub figure: u64,
-    pub negative: bool,
-    pub open: bool,
     pub counts: [usize; 2],
     pub first: [i32; 160],
     pub second: [i32; 160],
@@ -37,12 +42,14 @@ impl Case {
         Case {
             kind: None,
             comment: false,
+            negative: false,
+            open: false,
+            letters: 0,
+            text: [0u8; 10],
             field: 0,
             digits: 0,
             tape: tape,
             figure: 0,
-            negative: false,
-            open: false,
             counts: counts,
             first: none,
             second: none,
@@ -56,50 +63,64 @@ impl Case {
             return case;
         }
         match c {
-            b'#' => {
-                case.comment = true;
-                case
-            }
+            b'#' => case.comment = true,
             b'r' | b'p' | b'b' | b'j' | b'h' | b'v' | b'y' | b'm' | b'c' | b'i' | b'x' => {
                 case.kind = Some(c);
-                case
+                case.add_letter(c);
             }
-            b'/' => case.closed().moved(),
-            b' ' => case.closed(),
-            b'-' => {
-                case.negative = true;
-                case
+            b'a'..=b'z' => case.add_letter(c),
+            b'/' => {
+                case.close();
+                case.move_on();
             }
-            b'0'..=b'9' => case.digit(c - b'0'),
-            b'A'..=b'F' => case.digit(c - b'A' + 10),
-            _ => case,
+            b' ' => case.close(),
+            b'-' => case.negative = true,
+            b'0'..=b'9' => case.add_digit(c - b'0'),
+            b'A'..=b'F' => case.add_digit(c - b'A' + 10),
+            _ => {}
         }
-    }
-
-    fn moved(mut self) -> Case {
-        if self.field < 2 {
-            self.field += 1;
-        }
-        self
-    }
-
-    fn digit(self, d: u8) -> Case {
-        if self.field == 0 {
-            return self.with_digit(d);
-        }
-        let mut case = self;
-        if case.figure <= 2147483648 {
-            case.figure = case.figure * 10 + d as u64;
-        }
-        case.open = true;
         case
     }
 
+    // The line's word.
+    pub fn word(&self) -> &[u8]
+        ensures { result.now ≡ take self.now.letters self.now.text }
+    {
+        self.text
+            .get(..usize::from(self.letters))
+            .unwrap_or(&self.text)
+    }
+
+    fn add_letter(&mut self, c: u8) {
+        let letters = usize::from(self.letters);
+        if letters < 10 {
+            self.text[letters] = c;
+            self.letters += 1;
+        }
+    }
+
+    fn move_on(&mut self) {
+        if self.field < 2 {
+            self.field += 1;
+        }
+    }
+
+    fn add_digit(&mut self, d: u8) {
+        if self.field == 0 {
+            self.add_tape_digit(d);
+            return;
+        }
+        if self.figure <= 2147483648 {
+            self.figure = self.figure * 10 + d as u64;
+        }
+        self.open = true;
+    }
+
     // One hexadecimal digit of the tape more.
-    fn with_digit(mut self, d: u8) -> Case {
+    fn add_tape_digit(&mut self, d: u8) {
         let digits = self.digits;
         if 3072 <= digits {
-            return self;
+            return;
         }
         let at = digits / 2;
         let high = self.tape[at];
@@ -109,13 +130,17 @@ impl Case {
             self.tape[at] = high % 16 * 16 + d % 16;
         }
         self.digits = digits + 1;
-        self
     }
 
     // The number that a blank, a stroke or the line's end closes, where there is one.
     pub fn closed(mut self) -> Case {
+        self.close();
+        self
+    }
+
+    fn close(&mut self) {
         if !self.open {
-            return self;
+            return;
         }
         let x = value(self.figure, self.negative);
         let list = self.field;
@@ -135,7 +160,6 @@ impl Case {
         self.figure = 0;
         self.negative = false;
         self.open = false;
-        self
     }
 }
 
@@ -187,5 +211,35 @@ pub fn refused(rt: &impl Print, why: Refusal) -> io::Result<()> {
             print::number(rt, span.floor)
         }
         Carried::Rounds(rounds) => print::unsigned(rt, rounds as u64),
+    }
+}
+
+#[cfg(test)]
+mod tests {
+    use super::*;
+
+    // The case of a line.
+    fn line(text: &[u8]) -> Case {
+        let mut case = Case::new();
+        for c in text {
+            case = case.next(*c);
+        }
+        case.closed()
+    }
+
+    #[test]
+    fn words(rt: HostRuntime) {
+        assert_eq!(rt; Case::new().word(), b"".as_slice());
+        assert_eq!(rt; line(b"read 0A01").word(), b"read".as_slice());
+        assert_eq!(rt; line(b"# read").word(), b"".as_slice());
+        assert_eq!(rt;
+            line(b"correction 3FF0 / -5").word(),
+            b"correction".as_slice()
+        );
+        assert_eq!(rt;
+            line(b"corrections 3FF0 / -5").word(),
+            b"correction".as_slice()
+        );
+        assert_eq!(rt; line(b"ju 0A dge / 1 x / 2#s").word(), b"judgex".as_slice());
     }
 }

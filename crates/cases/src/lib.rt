@@ -13,10 +13,10 @@ use std::io;
 use std::io::Read;
 use tape::refusal::{Carried, Refusal, carries, number};
 
-// A case as far as it has been read, character by character. The kind is the last such letter of the
-// line's word; words of two programs may share theirs, as `read` and `ranges` do, so that it stays a
-// letter. Small letters are the line's word, of which the first 10 are kept. Digits of a tape, or of
-// floats, are 0 to 9 and A to F; numbers are decimal.
+// A case as far as it has been read, character by character. The line's small letters are its word, of
+// which the first 10 are kept, so many as `letters` says. The kind is the last letter of the word that
+// stands for one; words of two programs may share theirs, as `read` and `ranges` do, so that it stays a
+// letter. Digits of a tape, or of floats, are 0 to 9 and A to F; numbers are decimal.
 #[derive(Clone, Copy)]
 pub struct Case {
     pub kind: Option<u8>,
@@ -82,7 +82,7 @@ impl Case {
         case
     }
 
-    // The line's word.
+    // The letters that are kept of the line's word.
     pub fn word(&self) -> &[u8]
         ensures { result.now ≡ take self.now.letters self.now.text }
     {
